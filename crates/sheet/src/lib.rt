@@ -1,0 +1,145 @@
+// The sheet's bytes: the words of its refusals, little-endian numbers, and the fields of task and core records.
+// Every reader is total: what stands past the end reads as 0.
+ghost use mathlib.Core.Path.{_≡_};
+ghost use Prim.Native.Nat.{_+_, _*_};
+ghost use lib.ListN.{getD};
+ghost use Rattle.sheet.specs.Refusals.{numberOf};
+ghost use Rattle.sheet.specs.Numbers.{word, long};
+ghost use Rattle.sheet.specs.Records.{periodAt, budgetAt, coreAt, factorAt, pivotAt, divisorAt};
+
+// The refusals of document 01 by their words.
+pub enum Refusal {
+    Stub,
+    Mark,
+    Version,
+    Count,
+    Length,
+    Spare,
+    Period,
+    Budget,
+    Core,
+    Bare,
+    Factor,
+    Stretch,
+    Chain,
+    Overload,
+    NoFit,
+    Tight,
+    Unlisted,
+    Early,
+    Late,
+    Quiet,
+    Foreign,
+    Start,
+}
+
+pub fn number(word: Refusal) -> u8
+    ensures { λ r. ⌜ r ≡ numberOf word ⌝ }
+{
+    match word {
+        Refusal::Stub => 1,
+        Refusal::Mark => 2,
+        Refusal::Version => 3,
+        Refusal::Count => 4,
+        Refusal::Length => 5,
+        Refusal::Spare => 6,
+        Refusal::Period => 7,
+        Refusal::Budget => 8,
+        Refusal::Core => 9,
+        Refusal::Bare => 10,
+        Refusal::Factor => 11,
+        Refusal::Stretch => 12,
+        Refusal::Chain => 13,
+        Refusal::Overload => 14,
+        Refusal::NoFit => 15,
+        Refusal::Tight => 16,
+        Refusal::Unlisted => 17,
+        Refusal::Early => 18,
+        Refusal::Late => 19,
+        Refusal::Quiet => 20,
+        Refusal::Foreign => 21,
+        Refusal::Start => 22,
+    }
+}
+
+// The byte at a place.
+pub fn byte(part: &[u8], at: usize) -> u8
+    ensures { λ r. ⌜ r ≡ getD (now (part .entry)) at 0 ⌝ }
+{
+    if at < part.len() {
+        return part[at];
+    }
+    0
+}
+
+fn join8(low: u8, high: u8) -> u16
+    ensures { λ r. ⌜ r ≡ low + 256 * high ⌝ }
+{
+    (low as u16) + 256 * (high as u16)
+}
+
+fn join16(low: u16, high: u16) -> u32
+    ensures { λ r. ⌜ r ≡ low + 65536 * high ⌝ }
+{
+    (low as u32) + 65536 * (high as u32)
+}
+
+// The number of two bytes at a place, low byte first.
+pub fn read_word(part: &[u8], at: usize) -> u16
+    ensures { λ r. ⌜ r ≡ word (now (part .entry)) at ⌝ }
+{
+    if at < part.len() {
+        return join8(part[at], byte(part, at + 1));
+    }
+    0
+}
+
+// The number of four bytes at a place, low byte first.
+pub fn read_long(part: &[u8], at: usize) -> u32
+    ensures { λ r. ⌜ r ≡ long (now (part .entry)) at ⌝ }
+{
+    if at < part.len() {
+        return join16(read_word(part, at), read_word(part, at + 2));
+    }
+    0
+}
+
+// The fields of task i. The part is the sheet's from byte 8.
+
+pub fn period(tasks: &[u8], i: u8) -> u16
+    ensures { λ r. ⌜ r ≡ periodAt (now (tasks .entry)) i ⌝ }
+{
+    read_word(tasks, 10 * (i as usize))
+}
+
+pub fn budget(tasks: &[u8], i: u8) -> u16
+    ensures { λ r. ⌜ r ≡ budgetAt (now (tasks .entry)) i ⌝ }
+{
+    read_word(tasks, 10 * (i as usize) + 2)
+}
+
+pub fn core(tasks: &[u8], i: u8) -> u8
+    ensures { λ r. ⌜ r ≡ coreAt (now (tasks .entry)) i ⌝ }
+{
+    byte(tasks, 10 * (i as usize) + 4)
+}
+
+pub fn factor(tasks: &[u8], i: u8) -> u32
+    ensures { λ r. ⌜ r ≡ factorAt (now (tasks .entry)) i ⌝ }
+{
+    read_long(tasks, 10 * (i as usize) + 6)
+}
+
+// The fields of core k. The part is the sheet's after the last task.
+
+pub fn pivot(cores: &[u8], k: u8) -> u16
+    ensures { λ r. ⌜ r ≡ pivotAt (now (cores .entry)) k ⌝ }
+{
+    read_word(cores, 8 * (k as usize))
+}
+
+pub fn divisor(cores: &[u8], k: u8) -> u32
+    ensures { λ r. ⌜ r ≡ divisorAt (now (cores .entry)) k ⌝ }
+{
+    read_long(cores, 8 * (k as usize) + 4)
+}

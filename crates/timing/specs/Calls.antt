@@ -1,0 +1,64 @@
+-- Document 01, "The dispatcher": calls on a core, their answers, the state that each hands back, and the log of a list of calls.
+-- A core's state is here the list of its tasks in priority order.
+use Prim.Native.Nat.{ℕ}
+use mathlib.Core.Bool.{Bool, cond}
+use mathlib.Core.List.{List, [], _∷_, map}
+use Rattle.timing.specs.declared.Task.{Task}
+use Rattle.timing.specs.Tasks.{pending, early, named, released, finished, used, older}
+
+-- the calls: a release or a finish of a number, and a tick
+pub data Call : Type 0 where
+  release : ℕ → Call
+  finish : ℕ → Call
+  tick : Call
+
+-- the answers: a release or a finish is accepted, a tick goes to a task's number or is idle, a call is refused with a number and a place
+pub data Answer : Type 0 where
+  accepted : Answer
+  served : ℕ → Answer
+  idle : Answer
+  refused : ℕ → ℕ → Answer
+
+-- a release of a task that is there: 18 Early, then 19 Late
+unfoldable pub releaseAnswer : Task → Answer
+releaseAnswer t = cond (early t) (refused 18 (t .number)) (cond (pending t) (refused 19 (t .number)) accepted)
+
+-- a finish of a task that is there: 20 Quiet
+unfoldable pub finishAnswer : Task → Answer
+finishAnswer t = cond (pending t) accepted (refused 20 (t .number))
+
+-- what the task with this number answers, or 17 Unlisted
+unfoldable pub ofNamed : ℕ → (Task → Answer) → List Task → Answer
+ofNamed j f [] = refused 17 0
+ofNamed j f (t ∷ s) = cond (named j t) (f t) (ofNamed j f s)
+
+-- "the first pending task by priority .. its task number is the answer, else idle"
+unfoldable pub firstPending : List Task → Answer
+firstPending [] = idle
+firstPending (t ∷ s) = cond (pending t) (served (t .number)) (firstPending s)
+
+-- the list with its first task that passes a test changed
+unfoldable pub modify : (Task → Bool) → (Task → Task) → List Task → List Task
+modify q f [] = []
+modify q f (t ∷ s) = cond (q t) (f t ∷ s) (t ∷ modify q f s)
+
+-- what a call answers
+unfoldable pub answer : Call → List Task → Answer
+answer (release j) s = ofNamed j releaseAnswer s
+answer (finish j) s = ofNamed j finishAnswer s
+answer tick s = firstPending s
+
+-- the state that a call hands back
+unfoldable pub next : Call → List Task → List Task
+next (release j) s = modify (named j) released s
+next (finish j) s = modify (named j) finished s
+next tick s = map older (modify pending used s)
+
+-- one line of a log
+pub data Entry : Type 0 where
+  entry : Call → Answer → Entry
+
+-- the log of a list of calls on any machine: each call gets the state that the call before it handed back
+unfoldable pub log : {S : Type 0} → (Call → S → Answer) → (Call → S → S) → S → List Call → List Entry
+log ask step s [] = []
+log ask step s (c ∷ cs) = entry c (ask c s) ∷ log ask step (step c s) cs

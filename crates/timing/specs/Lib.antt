@@ -1,0 +1,4 @@
+pub mod Tasks
+pub mod Calls
+pub mod Form
+pub mod OnTime
