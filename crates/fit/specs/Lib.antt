@@ -1,0 +1,4 @@
+pub mod Lists
+pub mod Priority
+pub mod Fits
+pub mod Answers

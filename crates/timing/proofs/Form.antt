@@ -1,0 +1,55 @@
+-- Every call, accepted or refused, keeps the state's own form.
+use Prim.Native.Nat.{ℕ}
+use mathlib.Core.Path.{_≡_, refl, sym, ap, _∙_, subst}
+use mathlib.Core.List.{List, [], _∷_, map}
+use native.Mathlib.Omega.{arith}
+use Rattle.timing.specs.declared.Task.{Task}
+use Rattle.timing.specs.Tasks.{pending, withJob, released, finished, used, older}
+use Rattle.timing.specs.Calls.{Call, release, finish, tick, Answer, releaseAnswer, finishAnswer, modify, next}
+use Rattle.timing.specs.Form.{Each, EachPair, Sound, Distinct, Above, Form}
+use Rattle.timing.proofs.Lists.{each-map}
+use Rattle.timing.proofs.Runs.{run, run-kept}
+use Rattle.timing.proofs.Steps.{Release, is-early, is-late, starts, release-view, Finish, is-quiet, ends, finish-view, changed-named, changed-pending, each-changed, bare, bare-next, length-next}
+
+each-of-map : (P : Task → Type 0) (g : Task → Task) (s : List Task) → Each P (map g s) ≡ Each (λ t. P (g t)) s
+unfolding Each
+each-of-map P g [] = refl
+each-of-map P g (t ∷ s) = ap (λ X. P (g t) × X) (each-of-map P g s)
+
+pair-of-map : (R : Task → Task → Type 0) (g : Task → Task) (s : List Task) → EachPair R (map g s) ≡ EachPair (λ t u. R (g t) (g u)) s
+unfolding EachPair
+pair-of-map R g [] = refl
+pair-of-map R g (t ∷ s) = λ i. each-of-map (R (g t)) g s i × pair-of-map R g s i
+
+-- a property of a list that reads the figures of its tasks alone is kept by every call
+pub figures-kept : (P : List Task → Type 0) → ((s : List Task) → P (map bare s) ≡ P s) → (c : Call) (s : List Task) → P s → P (next c s)
+figures-kept P e c s h = subst (λ X. X) (sym (e s) ∙ ap P (sym (bare-next c s)) ∙ e (next c s)) h
+
+sound-next : (c : Call) (s : List Task) → Each Sound s → Each Sound (next c s)
+unfolding next used older withJob
+sound-next (release j) s h = each-changed Sound (λ t. go (release-view t)) (changed-named j released releaseAnswer s) h
+  where
+    go : {t t′ : Task} {a : Answer} → Release t a t′ → Sound t → Sound t′
+    go (is-early x) k = k
+    go (is-late x y) k = k
+    go (starts x y) k = omega arith
+sound-next (finish j) s h = each-changed Sound (λ t. go (finish-view t)) (changed-named j finished finishAnswer s) h
+  where
+    go : {t t′ : Task} {a : Answer} → Finish t a t′ → Sound t → Sound t′
+    go (is-quiet x) k = k
+    go (ends x) k = omega arith
+sound-next tick s h = each-map Sound Sound older (modify pending used s) (λ t k. omega arith) (each-changed Sound (λ t k. omega arith) (changed-pending used s) h)
+
+-- each call hands back a state in form
+pub form-kept : (c : Call) (s : List Task) → Form s → Form (next c s)
+unfolding Distinct Above bare withJob
+form-kept c s h = record {
+    count = omega (arith, length-next c s);
+    sound = sound-next c s (h .sound);
+    distinct = figures-kept (EachPair Distinct) (pair-of-map Distinct bare) c s (h .distinct);
+    ordered = figures-kept (EachPair Above) (pair-of-map Above bare) c s (h .ordered)
+  }
+
+-- a list of calls hands back a state in form
+pub form-run : (cs : List Call) (s : List Task) → Form s → Form (run next s cs)
+form-run cs s h = run-kept next Form form-kept cs s h

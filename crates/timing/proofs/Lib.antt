@@ -1,0 +1,5 @@
+pub mod Rate
+pub mod Lists
+pub mod Runs
+pub mod Steps
+pub mod Form

@@ -1,0 +1,67 @@
+-- Lists of tasks: a property of each task, the task at a place, and sums.
+use Prim.Native.Nat.{ℕ, zero, suc, _+_, _≤_, _<_}
+use mathlib.Core.Path.{_≡_, refl, ap}
+use mathlib.Core.List.{List, [], _∷_, map}
+use native.Mathlib.Omega.{arith}
+use lib.ListN.{length, take, getD}
+use Rattle.timing.specs.declared.Task.{Task}
+use Rattle.timing.specs.Form.{Each, EachPair}
+use Rattle.timing.proofs.Rate.{sumOf}
+
+-- the task that stands at no place
+abbrev pub noTask : Task
+noTask = record { period = 0; budget = 0; age = 0; left = 0; number = 0 }
+
+-- the task at a place, in priority order from 0
+abbrev pub nth : List Task → ℕ → Task
+nth s i = getD s i noTask
+
+pub each-imp : {P Q : Task → Type 0} (s : List Task) → ((t : Task) → P t → Q t) → Each P s → Each Q s
+unfolding Each
+each-imp [] f h = tt
+each-imp (t ∷ s) f h = (f t (h .0), each-imp s f (h .1))
+
+pub each-take : (P : Task → Type 0) (k : ℕ) (s : List Task) → Each P s → Each P (take k s)
+unfolding Each
+each-take P zero s h = tt
+each-take P (suc k) [] h = tt
+each-take P (suc k) (t ∷ s) h = (h .0, each-take P k s (h .1))
+
+pub each-map : (P Q : Task → Type 0) (g : Task → Task) (s : List Task) → ((t : Task) → P t → Q (g t)) → Each P s → Each Q (map g s)
+unfolding Each
+each-map P Q g [] f h = tt
+each-map P Q g (t ∷ s) f h = (f t (h .0), each-map P Q g s f (h .1))
+
+-- a property of each task is one of the task at each place
+pub each-nth : (P : Task → Type 0) (s : List Task) (i : ℕ) → i < length s → Each P s → P (nth s i)
+unfolding Each
+each-nth P [] i lt h = absurd (omega arith)
+each-nth P (t ∷ s) zero lt h = h .0
+each-nth P (t ∷ s) (suc i) lt h = each-nth P s i (omega arith) (h .1)
+
+pub nth-each : (P : Task → Type 0) (s : List Task) → ((i : ℕ) → i < length s → P (nth s i)) → Each P s
+unfolding Each
+nth-each P [] f = tt
+nth-each P (t ∷ s) f = (f zero (omega arith), nth-each P s (λ i lt. f (suc i) (omega arith)))
+
+-- a figure of one task is at most the sum of its level
+pub nth-le-sum : (f : Task → ℕ) (s : List Task) (i : ℕ) → i < length s → f (nth s i) ≤ sumOf f (take (suc i) s)
+unfolding sumOf
+nth-le-sum f [] i lt = absurd (omega arith)
+nth-le-sum f (t ∷ s) zero lt = omega arith
+nth-le-sum f (t ∷ s) (suc i) lt = omega (arith, nth-le-sum f s i (omega arith))
+
+pub sum-le : (f g : Task → ℕ) (s : List Task) → Each (λ t. f t ≤ g t) s → sumOf f s ≤ sumOf g s
+unfolding sumOf Each
+sum-le f g [] h = omega arith
+sum-le f g (t ∷ s) h = omega (arith, sum-le f g s (h .1))
+
+pub sum-map : (f : Task → ℕ) (g : Task → Task) (s : List Task) → sumOf f (map g s) ≡ sumOf (λ t. f (g t)) s
+unfolding sumOf
+sum-map f g [] = refl
+sum-map f g (t ∷ s) = ap (λ n. f (g t) + n) (sum-map f g s)
+
+pub take-map : (g : Task → Task) (k : ℕ) (s : List Task) → take k (map g s) ≡ map g (take k s)
+take-map g zero s = refl
+take-map g (suc k) [] = refl
+take-map g (suc k) (t ∷ s) = ap (λ l. g t ∷ l) (take-map g k s)

@@ -1,0 +1,62 @@
+-- Lists of calls on any machine: the state after them, and the parts of their log.
+use Prim.Native.Nat.{ℕ, _+_}
+use mathlib.Core.Path.{_≡_, refl, sym, ap, _∙_}
+use mathlib.Core.Bool.{Bool, true, false, cond}
+use mathlib.Core.List.{List, [], _∷_, _++_}
+use native.Mathlib.Omega.{arith}
+use Rattle.timing.specs.Calls.{Call, Answer, Entry, entry, log}
+use Rattle.timing.specs.OnTime.{count}
+
+-- the state after a list of calls
+unfoldable pub run : {S : Type 0} → (Call → S → S) → S → List Call → S
+run step s [] = s
+run step s (c ∷ cs) = run step (step c s) cs
+
+-- the calls of a log
+unfoldable pub calls : List Entry → List Call
+calls [] = []
+calls (entry c a ∷ l) = c ∷ calls l
+
+-- what each call keeps, a list of calls keeps
+pub run-kept : {S : Type 0} (step : Call → S → S) (P : S → Type 0) → ((c : Call) (s : S) → P s → P (step c s)) → (cs : List Call) (s : S) → P s → P (run step s cs)
+unfolding run
+run-kept step P k [] s h = h
+run-kept step P k (c ∷ cs) s h = run-kept step P k cs (step c s) (k c s h)
+
+-- each entry of a log has the answer that its call gets at the state before it
+unfoldable pub Logged : {S : Type 0} → (Call → S → Answer) → (Call → S → S) → S → List Entry → Type 0
+Logged ask step s [] = Unit {0}
+Logged ask step s (entry c a ∷ l) = (a ≡ ask c s) × Logged ask step (step c s) l
+
+module _ {S : Type 0} (ask : Call → S → Answer) (step : Call → S → S) where
+  pub logged : (cs : List Call) (s : S) → Logged ask step s (log ask step s cs)
+  unfolding Logged log
+  logged [] s = tt
+  logged (c ∷ cs) s = (refl, logged cs (step c s))
+
+  pub logged-append : (l m : List Entry) (s : S) → Logged ask step s (l ++ m) → Logged ask step s l × Logged ask step (run step s (calls l)) m
+  unfolding Logged run calls
+  logged-append [] m s h = (tt, h)
+  logged-append (entry c a ∷ l) m s h =
+      let r = logged-append l m (step c s) (h .1) in
+      ((h .0, r .0), r .1)
+
+  pub run-log : (cs : List Call) (s : S) → run step s (calls (log ask step s cs)) ≡ run step s cs
+  unfolding log run calls
+  run-log [] s = refl
+  run-log (c ∷ cs) s = run-log cs (step c s)
+
+  pub run-append : (l m : List Entry) (s : S) → run step s (calls (l ++ m)) ≡ run step (run step s (calls l)) (calls m)
+  unfolding run calls
+  run-append [] m s = refl
+  run-append (entry c a ∷ l) m s = run-append l m (step c s)
+
+-- counts add up
+pub count-cons : (q : Entry → Bool) (x : Entry) (l : List Entry) → count q (x ∷ l) ≡ count q (x ∷ []) + count q l
+unfolding count
+count-cons q x l = elim (q x) as (λ b. cond b (count q l + 1) (count q l) ≡ cond b 1 0 + count q l) [ true ↦ omega arith | false ↦ omega arith ]
+
+pub count-append : (q : Entry → Bool) (l m : List Entry) → count q (l ++ m) ≡ count q l + count q m
+unfolding count
+count-append q [] m = omega arith
+count-append q (x ∷ l) m = omega (arith, count-cons q x (l ++ m), count-cons q x l, count-append q l m)

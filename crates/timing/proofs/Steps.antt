@@ -1,0 +1,152 @@
+-- What one call does to a list of tasks, and what it answers: at most the first task that passes a test changes.
+use Prim.Native.Nat.{ℕ, zero, suc, _+_, _≤_, _<_}
+use mathlib.Core.Path.{_≡_, refl, ap, _∙_}
+use mathlib.Core.Logic.{_⊎_, inl, inr, ⊎-elim}
+use mathlib.Core.Bool.{Bool, true, false, cond}
+use mathlib.Core.List.{List, [], _∷_, map}
+use native.Mathlib.Omega.{arith}
+use lib.ListN.{length, take, length-map, List·getD-map}
+use lib.Dec.{ltb}
+use borrow.Author.Tests.{ltb-true, ltb-false}
+use Rattle.timing.specs.declared.Task.{Task}
+use Rattle.timing.specs.Tasks.{pending, early, named, withJob, released, finished, used, older}
+use Rattle.timing.specs.Calls.{Call, release, finish, tick, Answer, accepted, served, idle, refused, releaseAnswer, finishAnswer, ofNamed, firstPending, modify, answer, next}
+use Rattle.timing.specs.Form.{Each, EachPair}
+use Rattle.timing.proofs.Rate.{sumOf}
+use Rattle.timing.proofs.Lists.{noTask, nth, take-map}
+
+-- a release of one task: its answer and the task after it
+pub data Release (t : Task) : Answer → Task → Type 0 where
+  is-early : t .age < t .period → Release t (refused 18 (t .number)) t
+  is-late : t .period ≤ t .age → 0 < t .left → Release t (refused 19 (t .number)) t
+  starts : t .period ≤ t .age → t .left ≡ 0 → Release t accepted (withJob t 0 (t .budget))
+
+pub release-view : (t : Task) → Release t (releaseAnswer t) (released t)
+unfolding releaseAnswer released early pending
+release-view t = go (early t) (pending t) refl refl
+  where
+    go : (b c : Bool) → early t ≡ b → pending t ≡ c → Release t (cond b (refused 18 (t .number)) (cond c (refused 19 (t .number)) accepted)) (cond b t (cond c t (withJob t 0 (t .budget))))
+    go true c e f = is-early (ltb-true _ _ e)
+    go false true e f = is-late (ltb-false _ _ e) (ltb-true _ _ f)
+    go false false e f = starts (ltb-false _ _ e) (omega (arith, ltb-false 0 (t .left) f))
+
+-- a finish of one task: its answer and the task after it
+pub data Finish (t : Task) : Answer → Task → Type 0 where
+  is-quiet : t .left ≡ 0 → Finish t (refused 20 (t .number)) t
+  ends : 0 < t .left → Finish t accepted (withJob t (t .age) 0)
+
+pub finish-view : (t : Task) → Finish t (finishAnswer t) (finished t)
+unfolding finishAnswer finished pending
+finish-view t = go (pending t) refl
+  where
+    go : (b : Bool) → pending t ≡ b → Finish t (cond b accepted (refused 20 (t .number))) (cond b (withJob t (t .age) 0) t)
+    go true e = ends (ltb-true _ _ e)
+    go false e = is-quiet (omega (arith, ltb-false 0 (t .left) e))
+
+-- the first task of a list that passes q is changed by g and answers f; where none passes, the answer is d
+pub data Changed (q : Task → Bool) (g : Task → Task) (f : Task → Answer) (d : Answer) : List Task → List Task → Answer → Type 0 where
+  nowhere : Changed q g f d [] [] d
+  here : {t : Task} {s : List Task} → q t ≡ true → Changed q g f d (t ∷ s) (g t ∷ s) (f t)
+  later : {t : Task} {s s′ : List Task} {a : Answer} → q t ≡ false → Changed q g f d s s′ a → Changed q g f d (t ∷ s) (t ∷ s′) a
+
+changed-cons : {q : Task → Bool} {g : Task → Task} {f : Task → Answer} {d a : Answer} {t : Task} {s s′ : List Task} (b : Bool) → q t ≡ b → Changed q g f d s s′ a → Changed q g f d (t ∷ s) (cond b (g t ∷ s) (t ∷ s′)) (cond b (f t) a)
+changed-cons true e c = here e
+changed-cons false e c = later e c
+
+pub changed-named : (j : ℕ) (g : Task → Task) (f : Task → Answer) (s : List Task) → Changed (named j) g f (refused 17 0) s (modify (named j) g s) (ofNamed j f s)
+unfolding modify ofNamed
+changed-named j g f [] = nowhere
+changed-named j g f (t ∷ s) = changed-cons (named j t) refl (changed-named j g f s)
+
+pub changed-pending : (g : Task → Task) (s : List Task) → Changed pending g (λ t. served (t .number)) idle s (modify pending g s) (firstPending s)
+unfolding modify firstPending
+changed-pending g [] = nowhere
+changed-pending g (t ∷ s) = changed-cons (pending t) refl (changed-pending g s)
+
+module _ {q : Task → Bool} {g : Task → Task} {f : Task → Answer} {d : Answer} where
+  -- a place of the list stays as it is, or it is the one that changes and answers
+  pub changed-nth : {a : Answer} {s s′ : List Task} (i : ℕ) → Changed q g f d s s′ a → (nth s′ i ≡ nth s i) ⊎ ((q (nth s i) ≡ true) × (nth s′ i ≡ g (nth s i)) × (a ≡ f (nth s i)))
+  changed-nth i nowhere = inl refl
+  changed-nth zero (here e) = inr (e, refl, refl)
+  changed-nth (suc i) (here e) = inl refl
+  changed-nth zero (later e c) = inl refl
+  changed-nth (suc i) (later e c) = changed-nth i c
+
+  -- no task passes and the answer is d, or the answer is that of a place that passes
+  pub changed-found : {a : Answer} {s s′ : List Task} → Changed q g f d s s′ a → (a ≡ d) ⊎ ((i : ℕ) × (i < length s) × (q (nth s i) ≡ true) × (nth s′ i ≡ g (nth s i)) × (a ≡ f (nth s i)))
+  changed-found nowhere = inl refl
+  changed-found (here e) = inr (zero, omega arith, e, refl, refl)
+  changed-found (later e c) = ⊎-elim inl (λ h. inr (suc (h .0), omega (arith, h .1), h .2, h .3, h .4)) (changed-found c)
+
+  pub each-changed : (P : Task → Type 0) → ((t : Task) → P t → P (g t)) → {a : Answer} {s s′ : List Task} → Changed q g f d s s′ a → Each P s → Each P s′
+  unfolding Each
+  each-changed P k nowhere h = h
+  each-changed P k (here e) h = (k _ (h .0), h .1)
+  each-changed P k (later e c) h = (h .0, each-changed P k c (h .1))
+
+  -- sums of two figures of the tasks: where the change takes no more of the one than it gives to the other, it does so in the whole
+  pub sum-changed : (u v : Task → ℕ) {a : Answer} {s s′ : List Task} → Changed q g f d s s′ a → Each (λ t. u (g t) + v t ≤ u t + v (g t)) s → sumOf u s′ + sumOf v s ≤ sumOf u s + sumOf v s′
+  unfolding Each sumOf
+  sum-changed u v nowhere h = omega arith
+  sum-changed u v (here e) h = omega (arith, h .0)
+  sum-changed u v (later e c) h = omega (arith, sum-changed u v c (h .1))
+
+  pub sum-same : (u : Task → ℕ) → ((t : Task) → u (g t) ≡ u t) → {a : Answer} {s s′ : List Task} → Changed q g f d s s′ a → sumOf u s′ ≡ sumOf u s
+  unfolding sumOf
+  sum-same u k nowhere = refl
+  sum-same u k (here {t} e) = omega (arith, k t)
+  sum-same u k (later e c) = omega (arith, sum-same u k c)
+
+-- the task's figures alone: its period, budget and number
+unfoldable pub bare : Task → Task
+bare t = withJob t 0 0
+
+bare-changed : {q : Task → Bool} {g : Task → Task} {f : Task → Answer} {d a : Answer} {s s′ : List Task} → ((t : Task) → bare (g t) ≡ bare t) → Changed q g f d s s′ a → map bare s′ ≡ map bare s
+bare-changed k nowhere = refl
+bare-changed k (here {t} {s} e) = ap (λ u. u ∷ map bare s) (k t)
+bare-changed k (later {t} e c) = ap (λ l. bare t ∷ l) (bare-changed k c)
+
+bare-older : (s : List Task) → map bare (map older s) ≡ map bare s
+unfolding bare older withJob
+bare-older [] = refl
+bare-older (t ∷ s) = ap (λ l. bare t ∷ l) (bare-older s)
+
+-- a call changes no figure of any task
+pub bare-next : (c : Call) (s : List Task) → map bare (next c s) ≡ map bare s
+unfolding next bare withJob used
+bare-next (release j) s = bare-changed (λ t. go (release-view t)) (changed-named j released releaseAnswer s)
+  where
+    go : {t t′ : Task} {a : Answer} → Release t a t′ → bare t′ ≡ bare t
+    go (is-early h) = refl
+    go (is-late h k) = refl
+    go (starts h k) = refl
+bare-next (finish j) s = bare-changed (λ t. go (finish-view t)) (changed-named j finished finishAnswer s)
+  where
+    go : {t t′ : Task} {a : Answer} → Finish t a t′ → bare t′ ≡ bare t
+    go (is-quiet h) = refl
+    go (ends h) = refl
+bare-next tick s = bare-older (modify pending used s) ∙ bare-changed (λ t. refl) (changed-pending used s)
+
+pub length-next : (c : Call) (s : List Task) → length (next c s) ≡ length s
+length-next c s = omega (arith, length-map (next c s) bare, length-map s bare, ap length (bare-next c s))
+
+pub bare-nth : (c : Call) (s : List Task) (i : ℕ) → bare (nth (next c s) i) ≡ bare (nth s i)
+unfolding bare withJob
+bare-nth c s i = cc (List·getD-map bare (next c s) i noTask, List·getD-map bare s i noTask, ap (λ l. nth l i) (bare-next c s))
+
+take-modify : (q : Task → Bool) (g : Task → Task) (k : ℕ) (s : List Task) → take k (modify q g s) ≡ modify q g (take k s)
+unfolding modify
+take-modify q g zero s = refl
+take-modify q g (suc k) [] = refl
+take-modify q g (suc k) (t ∷ s) = go (q t) (take-modify q g k s)
+  where
+    go : (b : Bool) → take k (modify q g s) ≡ modify q g (take k s) → take (suc k) (cond b (g t ∷ s) (t ∷ modify q g s)) ≡ cond b (g t ∷ take k s) (t ∷ modify q g (take k s))
+    go true e = refl
+    go false e = ap (λ l. t ∷ l) e
+
+-- a call on the first k tasks of a list does what it does on the list
+pub take-next : (c : Call) (k : ℕ) (s : List Task) → take k (next c s) ≡ next c (take k s)
+unfolding next
+take-next (release j) k s = take-modify (named j) released k s
+take-next (finish j) k s = take-modify (named j) finished k s
+take-next tick k s = take-map older k (modify pending used s) ∙ ap (map older) (take-modify pending used k s)
