@@ -16,6 +16,11 @@ noTask = record { period = 0; budget = 0; age = 0; left = 0; number = 0 }
 abbrev pub nth : List Task → ℕ → Task
 nth s i = getD s i noTask
 
+pub each-all : (P : Task → Type 0) (s : List Task) → ((t : Task) → P t) → Each P s
+unfolding Each
+each-all P [] f = tt
+each-all P (t ∷ s) f = (f t, each-all P s f)
+
 pub each-imp : {P Q : Task → Type 0} (s : List Task) → ((t : Task) → P t → Q t) → Each P s → Each Q s
 unfolding Each
 each-imp [] f h = tt

@@ -1,0 +1,39 @@
+-- The demand test: what the tasks of each level may ask for in w ticks, and a blocking term, fit in w ticks.
+use Prim.Native.Nat.{ℕ, suc, _+_, _*_, _-_, _/_, _≤_, _<_}
+use mathlib.Core.Path.{_≡_, refl, sym, ap, _∙_}
+use mathlib.Core.List.{List, map}
+use native.Mathlib.Omega.{arith}
+use lib.ListN.{length, take}
+use Rattle.timing.specs.declared.Task.{Task}
+use Rattle.timing.specs.Tasks.{withJob}
+use Rattle.timing.specs.Calls.{Call, next}
+use Rattle.timing.specs.Form.{Each}
+use Rattle.timing.proofs.Rate.{sumOf, rate}
+use Rattle.timing.proofs.Lists.{nth, nth-each, nth-le-sum, sum-map}
+use Rattle.timing.proofs.Steps.{bare, bare-next, bare-nth, length-next, take-next}
+
+-- w is the bound by task number and B the blocking term by place; the level of a place is the list up to it
+pub record Demand (B w : ℕ → ℕ) (s : List Task) : Type 0 where
+  pub room : (k : ℕ) → k < length s → B k + sumOf (rate (w (nth s k .number))) (take (suc k) s) ≤ w (nth s k .number)
+  pub within : (k : ℕ) → k < length s → w (nth s k .number) ≤ nth s k .period
+
+-- e ≤ w ≤ p
+pub demand-bounds : (B w : ℕ → ℕ) (s : List Task) → Demand B w s → Each (λ t. (t .budget ≤ w (t .number)) × (w (t .number) ≤ t .period)) s
+unfolding rate
+demand-bounds B w s h = nth-each _ s (λ k lt. (omega (arith, h .room k lt, nth-le-sum (rate (w (nth s k .number))) s k lt), h .within k lt))
+
+-- a call changes the demand of no level
+pub rate-next : (v : ℕ) (c : Call) (s : List Task) → sumOf (rate v) (next c s) ≡ sumOf (rate v) s
+unfolding rate bare withJob
+rate-next v c s = sym (sum-map (rate v) bare (next c s)) ∙ ap (sumOf (rate v)) (bare-next c s) ∙ sum-map (rate v) bare s
+
+pub number-next : (c : Call) (s : List Task) (k : ℕ) → nth (next c s) k .number ≡ nth s k .number
+unfolding bare withJob
+number-next c s k = ap (λ t. t .number) (bare-nth c s k)
+
+pub demand-kept : (B w : ℕ → ℕ) (c : Call) (s : List Task) → Demand B w s → Demand B w (next c s)
+unfolding bare withJob
+demand-kept B w c s h = record {
+    room = λ k lt. rw (number-next c s k, take-next c (suc k) s, rate-next (w (nth s k .number)) c (take (suc k) s)) (h .room k (omega (arith, length-next c s)));
+    within = λ k lt. rw (number-next c s k) (omega (arith, h .within k (omega (arith, length-next c s)), ap (λ t. t .period) (bare-nth c s k)))
+  }
