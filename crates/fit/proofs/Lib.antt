@@ -1,2 +1,5 @@
 pub mod Sorting
 pub mod Passes
+pub mod Lists
+pub mod Priority
+pub mod Levels

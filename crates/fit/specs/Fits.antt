@@ -1,10 +1,11 @@
 -- Document 01, "When a core fits": acceleration, simply periodic, load at most one, and w.
 -- p, e and M are by task number; Q and D are the core's. The list is the core's tasks in priority order.
 use Prim.Native.Nat.{ℕ, _*_, _/_, _%_}
+use mathlib.Core.Path.{_≡_}
 use mathlib.Core.Bool.{Bool, cond}
 use mathlib.Core.Option.{Option, none, some}
 use mathlib.Core.List.{List, [], _∷_}
-use lib.Dec.{leb, ltb, eqb}
+use lib.Dec.{ltb, eqb}
 use Rattle.fit.specs.Lists.{sum}
 
 -- Acceleration is broken (12): Q × M is above p × D.
@@ -15,6 +16,15 @@ stretched Q D p M = ltb (p * D) (Q * M)
 unfoldable pub chainBreak : (ℕ → ℕ) → ℕ → List ℕ → Option ℕ
 chainBreak M d [] = none
 chainBreak M d (i ∷ l) = cond (eqb (M i % d) 0) (chainBreak M (M i) l) (some i)
+
+-- m is a multiple of d
+unfoldable pub Multiple : ℕ → ℕ → Type 0
+Multiple d m = (c : ℕ) × (m ≡ d * c)
+
+-- "in priority order each factor is a multiple of the one before it", which is d before the first
+unfoldable pub Multiples : (ℕ → ℕ) → ℕ → List ℕ → Type 0
+Multiples M d [] = Unit {0}
+Multiples M d (i ∷ l) = Multiple d (M i) × Multiples M (M i) l
 
 -- L, "the last factor in priority order"; d where the list is empty
 unfoldable pub lastFactor : (ℕ → ℕ) → ℕ → List ℕ → ℕ

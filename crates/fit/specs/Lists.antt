@@ -1,5 +1,6 @@
 -- Small functions on lists of task or core numbers, in which the rules of document 01 are written.
 use Prim.Native.Nat.{ℕ, zero, suc, _+_}
+use lib.Dec.{eqb}
 use mathlib.Core.Bool.{Bool, cond}
 use mathlib.Core.Option.{Option, none, some}
 use mathlib.Core.List.{List, [], _∷_}
@@ -23,3 +24,23 @@ findSome f (i ∷ l) = elim (f i) [ none ↦ findSome f l | some x ↦ some x ]
 unfoldable pub sum : (ℕ → ℕ) → List ℕ → ℕ
 sum f [] = 0
 sum f (i ∷ l) = f i + sum f l
+
+-- those of a list that pass a test
+unfoldable pub select : (ℕ → Bool) → List ℕ → List ℕ
+select q [] = []
+select q (i ∷ l) = cond (q i) (i ∷ select q l) (select q l)
+
+-- how often a number stands in a list; two lists in which every number stands equally often are permutations of each other
+unfoldable pub occurs : ℕ → List ℕ → ℕ
+occurs x [] = 0
+occurs x (i ∷ l) = cond (eqb i x) (occurs x l + 1) (occurs x l)
+
+-- everything in a list has a property
+unfoldable pub Each : {A : Type 0} → (A → Type 0) → List A → Type 0
+Each P [] = Unit {0}
+Each P (x ∷ l) = P x × Each P l
+
+-- everything in a list stands in a relation to everything after it
+unfoldable pub EachPair : {A : Type 0} → (A → A → Type 0) → List A → Type 0
+EachPair R [] = Unit {0}
+EachPair R (x ∷ l) = Each (R x) l × EachPair R l

@@ -47,6 +47,9 @@ taskCount s = getD s 5 0
 abbrev pub coreCount : List ℕ → ℕ
 coreCount s = getD s 6 0
 
--- the task records start at byte 8, the core records "follow the last task"
-unfoldable pub figures : List ℕ → Figures
-figures s = figuresOf (taskCount s) (coreCount s) (drop 8 s) (drop (8 + 10 * taskCount s) s)
+-- the task records are the part from byte 8, and in it the core records "follow the last task"
+abbrev pub figuresIn : ℕ → ℕ → List ℕ → Figures
+figuresIn n c records = figuresOf n c records (drop (10 * n) records)
+
+abbrev pub figures : List ℕ → Figures
+figures s = figuresIn (taskCount s) (coreCount s) (drop 8 s)

@@ -9,9 +9,9 @@ use Rattle.timing.specs.Calls.{Call, release, finish, tick, Answer, rele
 use Rattle.timing.specs.Form.{Each, EachPair, Sound, Distinct, Above, Form}
 use Rattle.timing.proofs.Lists.{each-map}
 use Rattle.timing.proofs.Runs.{run, run-kept}
-use Rattle.timing.proofs.Steps.{Release, is-early, is-late, starts, release-view, Finish, is-quiet, ends, finish-view, changed-named, changed-pending, each-changed, bare, bare-next, length-next}
+use Rattle.timing.proofs.Steps.{released-cases, finished-cases, changed-named, changed-pending, each-changed, bare, bare-next, length-next}
 
-each-of-map : (P : Task → Type 0) (g : Task → Task) (s : List Task) → Each P (map g s) ≡ Each (λ t. P (g t)) s
+pub each-of-map : (P : Task → Type 0) (g : Task → Task) (s : List Task) → Each P (map g s) ≡ Each (λ t. P (g t)) s
 unfolding Each
 each-of-map P g [] = refl
 each-of-map P g (t ∷ s) = ap (λ X. P (g t) × X) (each-of-map P g s)
@@ -27,17 +27,8 @@ figures-kept P e c s h = subst (λ X. X) (sym (e s) ∙ ap P (sym (bare-next c s
 
 sound-next : (c : Call) (s : List Task) → Each Sound s → Each Sound (next c s)
 unfolding next used older withJob
-sound-next (release j) s h = each-changed Sound (λ t. go (release-view t)) (changed-named j released releaseAnswer s) h
-  where
-    go : {t t′ : Task} {a : Answer} → Release t a t′ → Sound t → Sound t′
-    go (is-early x) k = k
-    go (is-late x y) k = k
-    go (starts x y) k = omega arith
-sound-next (finish j) s h = each-changed Sound (λ t. go (finish-view t)) (changed-named j finished finishAnswer s) h
-  where
-    go : {t t′ : Task} {a : Answer} → Finish t a t′ → Sound t → Sound t′
-    go (is-quiet x) k = k
-    go (ends x) k = omega arith
+sound-next (release j) s h = each-changed Sound (λ t k. released-cases Sound t k (λ x y. omega arith)) (changed-named j released releaseAnswer s) h
+sound-next (finish j) s h = each-changed Sound (λ t k. finished-cases Sound t k (λ x. omega arith)) (changed-named j finished finishAnswer s) h
 sound-next tick s h = each-map Sound Sound older (modify pending used s) (λ t k. omega arith) (each-changed Sound (λ t k. omega arith) (changed-pending used s) h)
 
 -- each call hands back a state in form

@@ -6,3 +6,6 @@ pub mod Form
 pub mod Demand
 pub mod Level
 pub mod Machine
+pub mod OnTime
+pub mod First
+pub mod Age

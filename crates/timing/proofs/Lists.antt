@@ -1,6 +1,7 @@
 -- Lists of tasks: a property of each task, the task at a place, and sums.
 use Prim.Native.Nat.{ℕ, zero, suc, _+_, _≤_, _<_}
 use mathlib.Core.Path.{_≡_, refl, ap}
+use mathlib.Core.Logic.{_⊎_, inl, inr}
 use mathlib.Core.List.{List, [], _∷_, map}
 use native.Mathlib.Omega.{arith}
 use lib.ListN.{length, take, getD}
@@ -15,6 +16,10 @@ noTask = record { period = 0; budget = 0; age = 0; left = 0; number = 0 }
 -- the task at a place, in priority order from 0
 abbrev pub nth : List Task → ℕ → Task
 nth s i = getD s i noTask
+
+pub zero-or-pos : (n : ℕ) → (n ≡ 0) ⊎ (0 < n)
+zero-or-pos zero = inl refl
+zero-or-pos (suc n) = inr (omega arith)
 
 pub each-all : (P : Task → Type 0) (s : List Task) → ((t : Task) → P t) → Each P s
 unfolding Each
@@ -37,17 +42,26 @@ unfolding Each
 each-map P Q g [] f h = tt
 each-map P Q g (t ∷ s) f h = (f t (h .0), each-map P Q g s f (h .1))
 
--- a property of each task is one of the task at each place
-pub each-nth : (P : Task → Type 0) (s : List Task) (i : ℕ) → i < length s → Each P s → P (nth s i)
+-- a property of each task of a level is one of the task at its place
+pub each-level : (P : Task → Type 0) (s : List Task) (i : ℕ) → i < length s → Each P (take (suc i) s) → P (nth s i)
 unfolding Each
-each-nth P [] i lt h = absurd (omega arith)
-each-nth P (t ∷ s) zero lt h = h .0
-each-nth P (t ∷ s) (suc i) lt h = each-nth P s i (omega arith) (h .1)
+each-level P [] i lt h = absurd (omega arith)
+each-level P (t ∷ s) zero lt h = h .0
+each-level P (t ∷ s) (suc i) lt h = each-level P s i (omega arith) (h .1)
+
+pub each-nth : (P : Task → Type 0) (s : List Task) (i : ℕ) → i < length s → Each P s → P (nth s i)
+each-nth P s i lt h = each-level P s i lt (each-take P (suc i) s h)
 
 pub nth-each : (P : Task → Type 0) (s : List Task) → ((i : ℕ) → i < length s → P (nth s i)) → Each P s
 unfolding Each
 nth-each P [] f = tt
 nth-each P (t ∷ s) f = (f zero (omega arith), nth-each P s (λ i lt. f (suc i) (omega arith)))
+
+-- only a task of the list is pending
+pub pending-place : (s : List Task) (i : ℕ) → 0 < nth s i .left → i < length s
+pending-place [] i p = absurd (omega arith)
+pending-place (t ∷ s) zero p = omega arith
+pending-place (t ∷ s) (suc i) p = omega (arith, pending-place s i p)
 
 -- a figure of one task is at most the sum of its level
 pub nth-le-sum : (f : Task → ℕ) (s : List Task) (i : ℕ) → i < length s → f (nth s i) ≤ sumOf f (take (suc i) s)

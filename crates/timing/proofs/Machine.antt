@@ -9,7 +9,8 @@ use lib.Seq.{append-snoc}
 use Rattle.timing.specs.declared.Task.{Task}
 use Rattle.timing.specs.Calls.{Call, release, tick, Answer, accepted, Entry, entry, log}
 use Rattle.timing.specs.OnTime.{count, toTick, isTick, isRun, isFinish, isRefused, Ended, OnTime}
-use Rattle.timing.proofs.Runs.{run, calls, run-kept, Logged, logged, logged-append, count-cons, count-append}
+use Rattle.timing.proofs.Lists.{zero-or-pos}
+use Rattle.timing.proofs.Runs.{run, calls, run-kept, Logged, logged-append, log-split, count-cons, count-append}
 
 -- A job goes on over one entry of a log, from t to t′: what it loses is answered with its number, and its age counts the tick.
 pub record Goes (x : Entry) (t t′ : Task) : Type 0 where
@@ -29,10 +30,6 @@ pub record Machine {S : Type 0} (ask : Call → S → Answer) (step : Call → S
   pub begins : (j : ℕ) (s : S) → Good s → ask (release j) s ≡ accepted → (i : ℕ) × (view (step (release j) s) i .number ≡ j) × (view (step (release j) s) i .left ≡ budget s j) × (bound (step (release j) s) j ≡ bound s j)
   -- no call is refused as Late
   pub punctual : (c : Call) (s : S) → Good s → count (isRefused 19) (entry c (ask c s) ∷ []) ≡ 0
-
-zero-or-pos : (n : ℕ) → (n ≡ 0) ⊎ (0 < n)
-zero-or-pos zero = inl refl
-zero-or-pos (suc n) = inr (omega arith)
 
 ended-cons : (x : Entry) (l : List Entry) (e e′ j j′ : ℕ) → j′ ≡ j → e ≤ e′ + count (isRun j) (x ∷ []) → Ended e′ j′ l → Ended e j (x ∷ l)
 unfolding Ended
@@ -59,7 +56,7 @@ module _ {S : Type 0} (ask : Call → S → Answer) (step : Call → S → S) (G
   unfolding Logged count isTick toTick
   ends-in-time cs s g before xs rest j a e n =
       let s₁ = run step s (calls before) in
-      let h = logged-append ask step before _ s (subst (Logged ask step s) e (logged ask step cs s)) .1 in
+      let h = log-split ask step cs s before _ e .1 in
       let l = logged-append ask step (xs ++ entry tick a ∷ []) rest (step (release j) s₁) (rw append-snoc (h .1)) .0 in
       from-release s₁ j (xs ++ entry tick a ∷ []) (run-kept step Good (M .kept) (calls before) s g) (sym (h .0)) l (omega (arith, count-append isTick xs (entry tick a ∷ [])))
 

@@ -1,6 +1,6 @@
 -- Lists of calls on any machine: the state after them, and the parts of their log.
 use Prim.Native.Nat.{ℕ, _+_}
-use mathlib.Core.Path.{_≡_, refl, sym, ap, _∙_}
+use mathlib.Core.Path.{_≡_, refl, sym, ap, _∙_, subst}
 use mathlib.Core.Bool.{Bool, true, false, cond}
 use mathlib.Core.List.{List, [], _∷_, _++_}
 use native.Mathlib.Omega.{arith}
@@ -50,6 +50,12 @@ module _ {S : Type 0} (ask : Call → S → Answer) (step : Call → S → S) wh
   unfolding run calls
   run-append [] m s = refl
   run-append (entry c a ∷ l) m s = run-append l m (step c s)
+
+  -- a log in two parts: each is the log of its calls, the second from the state after the first
+  pub log-split : (cs : List Call) (s : S) (l m : List Entry) → log ask step s cs ≡ l ++ m → Logged ask step s l × Logged ask step (run step s (calls l)) m × (run step s cs ≡ run step (run step s (calls l)) (calls m))
+  log-split cs s l m e =
+      let h = logged-append l m s (subst (Logged ask step s) e (logged cs s)) in
+      (h .0, h .1, sym (run-log cs s) ∙ ap (λ x. run step s (calls x)) e ∙ run-append l m s)
 
 -- counts add up
 pub count-cons : (q : Entry → Bool) (x : Entry) (l : List Entry) → count q (x ∷ l) ≡ count q (x ∷ []) + count q l

@@ -30,6 +30,23 @@ release-view t = go (early t) (pending t) refl refl
     go false true e f = is-late (ltb-false _ _ e) (ltb-true _ _ f)
     go false false e f = starts (ltb-false _ _ e) (omega (arith, ltb-false 0 (t .left) f))
 
+pub release-started : (t : Task) → releaseAnswer t ≡ accepted → released t ≡ withJob t 0 (t .budget)
+release-started t e = go (release-view t) e
+  where
+    go : {a : Answer} {t′ : Task} → Release t a t′ → a ≡ accepted → t′ ≡ withJob t 0 (t .budget)
+    go (is-early x) d = cc
+    go (is-late x y) d = cc
+    go (starts x y) d = refl
+
+-- a property of a task after a release: of the task as it was, or of the task with a new job
+pub released-cases : (P : Task → Type 0) (t : Task) → P t → (t .period ≤ t .age → t .left ≡ 0 → P (withJob t 0 (t .budget))) → P (released t)
+released-cases P t h k = go (release-view t)
+  where
+    go : {a : Answer} {t′ : Task} → Release t a t′ → P t′
+    go (is-early x) = h
+    go (is-late x y) = h
+    go (starts x y) = k x y
+
 -- a finish of one task: its answer and the task after it
 pub data Finish (t : Task) : Answer → Task → Type 0 where
   is-quiet : t .left ≡ 0 → Finish t (refused 20 (t .number)) t
@@ -42,6 +59,14 @@ finish-view t = go (pending t) refl
     go : (b : Bool) → pending t ≡ b → Finish t (cond b accepted (refused 20 (t .number))) (cond b (withJob t (t .age) 0) t)
     go true e = ends (ltb-true _ _ e)
     go false e = is-quiet (omega (arith, ltb-false 0 (t .left) e))
+
+-- a property of a task after a finish
+pub finished-cases : (P : Task → Type 0) (t : Task) → P t → (0 < t .left → P (withJob t (t .age) 0)) → P (finished t)
+finished-cases P t h k = go (finish-view t)
+  where
+    go : {a : Answer} {t′ : Task} → Finish t a t′ → P t′
+    go (is-quiet x) = h
+    go (ends x) = k x
 
 -- the first task of a list that passes q is changed by g and answers f; where none passes, the answer is d
 pub data Changed (q : Task → Bool) (g : Task → Task) (f : Task → Answer) (d : Answer) : List Task → List Task → Answer → Type 0 where
@@ -78,11 +103,15 @@ module _ {q : Task → Bool} {g : Task → Task} {f : Task → Answer} {d : Answ
   changed-found (here e) = inr (zero, omega arith, e, refl, refl)
   changed-found (later e c) = ⊎-elim inl (λ h. inr (suc (h .0), omega (arith, h .1), h .2, h .3, h .4)) (changed-found c)
 
-  pub each-changed : (P : Task → Type 0) → ((t : Task) → P t → P (g t)) → {a : Answer} {s s′ : List Task} → Changed q g f d s s′ a → Each P s → Each P s′
+  -- what the change keeps of the task that passes and answers, it keeps of each task
+  pub each-hit : (P : Task → Type 0) {a : Answer} {s s′ : List Task} → ((t : Task) → q t ≡ true → a ≡ f t → P t → P (g t)) → Changed q g f d s s′ a → Each P s → Each P s′
   unfolding Each
-  each-changed P k nowhere h = h
-  each-changed P k (here e) h = (k _ (h .0), h .1)
-  each-changed P k (later e c) h = (h .0, each-changed P k c (h .1))
+  each-hit P k nowhere h = h
+  each-hit P k (here e) h = (k _ e refl (h .0), h .1)
+  each-hit P k (later e c) h = (h .0, each-hit P k c (h .1))
+
+  pub each-changed : (P : Task → Type 0) → ((t : Task) → P t → P (g t)) → {a : Answer} {s s′ : List Task} → Changed q g f d s s′ a → Each P s → Each P s′
+  each-changed P k c h = each-hit P (λ t x y. k t) c h
 
   -- sums of two figures of the tasks: where the change takes no more of the one than it gives to the other, it does so in the whole
   pub sum-changed : (u v : Task → ℕ) {a : Answer} {s s′ : List Task} → Changed q g f d s s′ a → Each (λ t. u (g t) + v t ≤ u t + v (g t)) s → sumOf u s′ + sumOf v s ≤ sumOf u s + sumOf v s′
@@ -96,6 +125,12 @@ module _ {q : Task → Bool} {g : Task → Task} {f : Task → Answer} {d : Answ
   sum-same u k nowhere = refl
   sum-same u k (here {t} e) = omega (arith, k t)
   sum-same u k (later e c) = omega (arith, sum-same u k c)
+
+  pub sum-less : (u : Task → ℕ) → ((t : Task) → u (g t) ≤ u t) → {a : Answer} {s s′ : List Task} → Changed q g f d s s′ a → sumOf u s′ ≤ sumOf u s
+  unfolding sumOf
+  sum-less u k nowhere = omega arith
+  sum-less u k (here {t} e) = omega (arith, k t)
+  sum-less u k (later e c) = omega (arith, sum-less u k c)
 
 -- the task's figures alone: its period, budget and number
 unfoldable pub bare : Task → Task
@@ -114,17 +149,8 @@ bare-older (t ∷ s) = ap (λ l. bare t ∷ l) (bare-older s)
 -- a call changes no figure of any task
 pub bare-next : (c : Call) (s : List Task) → map bare (next c s) ≡ map bare s
 unfolding next bare withJob used
-bare-next (release j) s = bare-changed (λ t. go (release-view t)) (changed-named j released releaseAnswer s)
-  where
-    go : {t t′ : Task} {a : Answer} → Release t a t′ → bare t′ ≡ bare t
-    go (is-early h) = refl
-    go (is-late h k) = refl
-    go (starts h k) = refl
-bare-next (finish j) s = bare-changed (λ t. go (finish-view t)) (changed-named j finished finishAnswer s)
-  where
-    go : {t t′ : Task} {a : Answer} → Finish t a t′ → bare t′ ≡ bare t
-    go (is-quiet h) = refl
-    go (ends h) = refl
+bare-next (release j) s = bare-changed (λ t. released-cases (λ u. bare u ≡ bare t) t refl (λ x y. refl)) (changed-named j released releaseAnswer s)
+bare-next (finish j) s = bare-changed (λ t. finished-cases (λ u. bare u ≡ bare t) t refl (λ x. refl)) (changed-named j finished finishAnswer s)
 bare-next tick s = bare-older (modify pending used s) ∙ bare-changed (λ t. refl) (changed-pending used s)
 
 pub length-next : (c : Call) (s : List Task) → length (next c s) ≡ length s

@@ -1,0 +1,19 @@
+use borrow.Author.Needs.{needs}
+use Rattle.checker.specs.Tests.{badCore}
+use Rattle.checker.proofs.bad_core.Statement.{statement}
+use Rattle.checker.proofs.bad_core.Tie as tie
+use Rattle.checker.proofs.bad_core.Reads as reads
+use Rattle.checker.proofs.bad_core.Lts as lts
+use Rattle.sheet.proofs.core.Reads as core-reads
+
+-- src/lib.rt:72:10
+core-requires : tie.Need-core-requires
+core-requires c κs = search needs
+
+-- src/lib.rt:69:1
+returns : tie.Need-returns
+unfolding badCore
+returns c = cc
+
+pub bad-core-spec : {M : Type 1} → statement M
+bad-core-spec = tie.close (tie.spec core-requires returns)

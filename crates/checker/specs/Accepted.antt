@@ -1,0 +1,2 @@
+-- What acceptance means.
+use Prim.Native.Nat.{ℕ}

@@ -1,0 +1,5 @@
+pub mod Tests
+pub mod Rules
+pub mod Verdict
+pub mod Accepted
+pub mod Answers

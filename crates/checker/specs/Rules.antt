@@ -1,0 +1,77 @@
+-- Document 01, "Refused sheets and calls": the rules 1 to 14 as one table, read from the top. Each row has its number and the place
+-- where its rule is broken first, if it is.
+use Prim.Native.Nat.{ℕ, _+_, _*_}
+use mathlib.Core.Bool.{Bool, true, false, not, _||_}
+use mathlib.Core.Option.{Option, none, some, Option·map}
+use mathlib.Core.List.{List, [], _∷_, _++_}
+use lib.ListN.{length, getD, drop}
+use lib.Dec.{ltb, eqb}
+use Rattle.sheet.specs.Numbers.{word}
+use Rattle.sheet.specs.Records.{Figures, figuresIn, taskCount, coreCount}
+use Rattle.fit.specs.Lists.{numbers, find, findSome}
+use Rattle.checker.specs.Tests.{isMarked, taskSpares, coreSpares, isSet, badPeriod, badBudget, badCore, bare, badFactor, badPivot, stretchedAt, chainBreakOn, overloadedOn}
+
+infix 68 _at_
+
+pub data Row : Type 0 where
+  _at_ : ℕ → Option ℕ → Row
+
+-- a rule of the whole sheet has place 0, a core's place is 64 plus its number, and an offset in the part from byte 8 is 8 more in the sheet
+unfoldable pub whole : Bool → Option ℕ
+whole true = some 0
+whole false = none
+
+unfoldable pub core : Option ℕ → Option ℕ
+core o = Option·map (λ k. 64 + k) o
+
+unfoldable pub offset : Option ℕ → Option ℕ
+offset o = Option·map (λ a. 8 + a) o
+
+-- Stub, Mark, Version, Count, Length
+abbrev pub frameRows : List ℕ → List Row
+frameRows s =
+    1 at whole (ltb (length s) 8)
+    ∷ 2 at whole (not (isMarked s))
+    ∷ 3 at whole (not (eqb (word s 3) 1))
+    ∷ 4 at whole (ltb 64 (taskCount s) || ltb 8 (coreCount s))
+    ∷ 5 at whole (not (eqb (length s) (8 + 10 * taskCount s + 8 * coreCount s)))
+    ∷ []
+
+-- Spare: byte 7 of the header, byte 5 of each task record, bytes 2 and 3 of each core record
+abbrev pub spareRows : ℕ → ℕ → List ℕ → List ℕ → List Row
+spareRows n c s records =
+    6 at find (isSet s) (7 ∷ [])
+    ∷ 6 at offset (find (isSet records) (taskSpares 0 n))
+    ∷ 6 at offset (find (isSet records) (coreSpares (10 * n) c))
+    ∷ []
+
+-- Period, Budget, Core
+abbrev pub taskRows : Figures → List Row
+taskRows f =
+    7 at find (badPeriod (f .period)) (numbers 0 (f .tasks))
+    ∷ 8 at find (badBudget (f .period) (f .budget)) (numbers 0 (f .tasks))
+    ∷ 9 at find (badCore (f .cores) (f .core)) (numbers 0 (f .tasks))
+    ∷ []
+
+-- Bare, Factor at tasks and then at cores, Stretch
+abbrev pub coreRows : Figures → List Row
+coreRows f =
+    10 at core (find (bare (f .tasks) (f .core)) (numbers 0 (f .cores)))
+    ∷ 11 at find (badFactor (f .factor)) (numbers 0 (f .tasks))
+    ∷ 11 at core (find (badPivot (f .pivot) (f .divisor)) (numbers 0 (f .cores)))
+    ∷ 12 at find (stretchedAt f) (numbers 0 (f .tasks))
+    ∷ []
+
+-- Chain by core and inside a core by priority, Overload
+abbrev pub fitRows : Figures → List Row
+fitRows f = 13 at findSome (chainBreakOn f) (numbers 0 (f .cores)) ∷ 14 at core (find (overloadedOn f) (numbers 0 (f .cores))) ∷ []
+
+-- the rules for n tasks and c cores whose records are the part from byte 8
+abbrev pub recordRows : Figures → List Row
+recordRows f = taskRows f ++ (coreRows f ++ fitRows f)
+
+-- the whole table
+abbrev pub rules : List ℕ → List Row
+rules s =
+    frameRows s
+    ++ (spareRows (taskCount s) (coreCount s) s (drop 8 s) ++ recordRows (figuresIn (taskCount s) (coreCount s) (drop 8 s)))

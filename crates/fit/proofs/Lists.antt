@@ -1,0 +1,148 @@
+-- Laws of lists: a property of each of a list and of each pair, sums, and how often a number stands in a list.
+-- Assumes nothing.
+use Prim.Native.Nat.{ℕ, zero, suc, _+_, _≤_, _<_, zero-le, suc-le-suc}
+use mathlib.Core.Path.{_≡_, refl, sym, ap, subst}
+use mathlib.Core.Bool.{Bool, true, false, cond}
+use mathlib.Core.List.{List, [], _∷_, _++_, append-assoc}
+use native.Mathlib.Nat.{zero-add, add-zero}
+use native.Mathlib.Omega.{arith}
+use borrow.Author.Tests.{eqb-true, eq-eqb}
+use lib.ListN.{length, take, getD}
+use lib.Dec.{eqb}
+use Rattle.fit.specs.Lists.{numbers, sum, select, occurs, Each, EachPair}
+
+-- what follows from a property of one, or from two, holds for each of a list
+pub each-of : {A : Type 0} {P Q : A → Type 0} (l : List A) → ((x : A) → P x → Q x) → Each P l → Each Q l
+unfolding Each
+each-of [] f h = tt
+each-of (x ∷ l) f h = (f x (h .0), each-of l f (h .1))
+
+pub each-both : {A : Type 0} {P Q R : A → Type 0} (l : List A) → ((x : A) → P x → Q x → R x) → Each P l → Each Q l → Each R l
+unfolding Each
+each-both [] f h k = tt
+each-both (x ∷ l) f h k = (f x (h .0) (k .0), each-both l f (h .1) (k .1))
+
+module _ {A : Type 0} (P : A → Type 0) where
+  pub each-all : (l : List A) → ((x : A) → P x) → Each P l
+  unfolding Each
+  each-all [] f = tt
+  each-all (x ∷ l) f = (f x, each-all l f)
+
+  -- both halves of a list, and back
+  pub each-append : (xs ys : List A) → Each P xs → Each P ys → Each P (xs ++ ys)
+  unfolding Each
+  each-append [] ys h k = k
+  each-append (x ∷ xs) ys h k = (h .0, each-append xs ys (h .1) k)
+
+  pub each-halves : (xs ys : List A) → Each P (xs ++ ys) → Each P xs × Each P ys
+  unfolding Each
+  each-halves [] ys h = (tt, h)
+  each-halves (x ∷ xs) ys h = let r = each-halves xs ys (h .1) in ((h .0, r .0), r .1)
+
+  pub each-take : (k : ℕ) (l : List A) → Each P l → Each P (take k l)
+  unfolding Each
+  each-take zero l h = tt
+  each-take (suc k) [] h = tt
+  each-take (suc k) (x ∷ l) h = (h .0, each-take k l (h .1))
+
+  -- the one at a place, and where it holds at every place
+  pub each-at : (d : A) (l : List A) (i : ℕ) → i < length l → Each P l → P (getD l i d)
+  unfolding Each
+  each-at d [] i q h = absurd (omega arith)
+  each-at d (x ∷ l) zero q h = h .0
+  each-at d (x ∷ l) (suc i) q h = each-at d l i (omega arith) (h .1)
+
+  -- a property of each is one of whatever stands between a front and a rest
+  pub each-split : (l : List A) → ((xs : List A) (x : A) (ys : List A) → l ≡ xs ++ x ∷ ys → P x) → Each P l
+  unfolding Each
+  each-split [] f = tt
+  each-split (x ∷ l) f = (f [] x l refl, each-split l (λ xs y ys e. f (x ∷ xs) y ys (ap (λ (t : List A). x ∷ t) e)))
+
+  pub each-between : {l : List A} (xs : List A) (x : A) (ys : List A) → l ≡ xs ++ x ∷ ys → Each P l → P x
+  unfolding Each
+  each-between xs x ys e h = each-halves xs (x ∷ ys) (subst (Each P) e h) .1 .0
+
+module _ {A : Type 0} (R : A → A → Type 0) where
+  pub pairs-take : (k : ℕ) (l : List A) → EachPair R l → EachPair R (take k l)
+  unfolding EachPair
+  pairs-take zero l h = tt
+  pairs-take (suc k) [] h = tt
+  pairs-take (suc k) (x ∷ l) h = (each-take (R x) k l (h .0), pairs-take k l (h .1))
+
+  -- two lists of which everything in the first stands in relation to everything in the second
+  pub pairs-append : (xs ys : List A) → EachPair R xs → EachPair R ys → Each (λ x. Each (R x) ys) xs → EachPair R (xs ++ ys)
+  unfolding Each EachPair
+  pairs-append [] ys h k r = k
+  pairs-append (x ∷ xs) ys h k r = (each-append (R x) xs ys (h .0) (r .0), pairs-append xs ys (h .1) k (r .1))
+
+  -- whatever stands before an element is in relation to it
+  pub pairs-before : (xs : List A) (y : A) (ys : List A) → EachPair R (xs ++ y ∷ ys) → Each (λ x. R x y) xs
+  unfolding Each EachPair
+  pairs-before [] y ys h = tt
+  pairs-before (x ∷ xs) y ys h = (each-halves (R x) xs (y ∷ ys) (h .0) .1 .0, pairs-before xs y ys (h .1))
+
+-- the sum over two lists, and over those that pass a test
+pub sum-append : (f : ℕ → ℕ) (xs ys : List ℕ) → sum f (xs ++ ys) ≡ sum f xs + sum f ys
+unfolding sum
+sum-append f [] ys = sym (zero-add _)
+sum-append f (x ∷ xs) ys = omega (arith, sum-append f xs ys)
+
+pub sum-select : (f : ℕ → ℕ) (q : ℕ → Bool) (l : List ℕ) → sum f (select q l) ≡ sum (λ i. cond (q i) (f i) 0) l
+unfolding sum select
+sum-select f q [] = refl
+sum-select f q (i ∷ l) = by (q i) (sum-select f q l)
+  where
+    by : (b : Bool) → sum f (select q l) ≡ sum (λ i. cond (q i) (f i) 0) l → sum f (cond b (i ∷ select q l) (select q l)) ≡ cond b (f i) 0 + sum (λ i. cond (q i) (f i) 0) l
+    by true h = ap (λ (s : ℕ). f i + s) h
+    by false h = omega arith
+
+-- lengths and occurrences are sums
+pub length-sum : (l : List ℕ) → length l ≡ sum (λ i. 1) l
+unfolding sum
+length-sum [] = refl
+length-sum (i ∷ l) = omega (arith, length-sum l)
+
+pub occurs-sum : (x : ℕ) (l : List ℕ) → occurs x l ≡ sum (λ i. cond (eqb i x) 1 0) l
+unfolding sum occurs
+occurs-sum x [] = refl
+occurs-sum x (i ∷ l) = by (eqb i x) (occurs-sum x l)
+  where
+    by : (b : Bool) → occurs x l ≡ sum (λ i. cond (eqb i x) 1 0) l → cond b (occurs x l + 1) (occurs x l) ≡ cond b 1 0 + sum (λ i. cond (eqb i x) 1 0) l
+    by true h = omega arith
+    by false h = omega arith
+
+-- what holds for each holds for a number that stands in the list
+pub each-occurs : (P : ℕ → Type 0) (x : ℕ) (l : List ℕ) → 1 ≤ occurs x l → Each P l → P x
+unfolding Each occurs
+each-occurs P x [] o h = absurd (omega arith)
+each-occurs P x (i ∷ l) o h = by (eqb i x) refl o (λ q. each-occurs P x l q (h .1))
+  where
+    by : (b : Bool) → eqb i x ≡ b → 1 ≤ cond b (occurs x l + 1) (occurs x l) → (1 ≤ occurs x l → P x) → P x
+    by true e q r = rw (← eqb-true i x e) (h .0)
+    by false e q r = r q
+
+-- the numbers from a up, with the last apart
+pub numbers-last : (a n : ℕ) → numbers a (suc n) ≡ numbers a n ++ (a + n) ∷ []
+unfolding numbers
+numbers-last a zero = rw (add-zero a)
+numbers-last a (suc n) =
+    let e : suc a + n ≡ a + suc n = omega arith in
+    ap (λ (t : List ℕ). a ∷ t) (rw (← e) (numbers-last (suc a) n))
+
+pub sum-numbers : (f : ℕ → ℕ) (a n : ℕ) → sum f (numbers a (suc n)) ≡ sum f (numbers a n) + f (a + n)
+unfolding sum
+sum-numbers f a n = rw (numbers-last a n) (omega (arith, sum-append f (numbers a n) ((a + n) ∷ [])))
+
+pub numbers-length : (a n : ℕ) → length (numbers a n) ≡ n
+unfolding numbers
+numbers-length a zero = refl
+numbers-length a (suc n) = ap suc (numbers-length (suc a) n)
+
+pub select-length : (q : ℕ → Bool) (l : List ℕ) → length (select q l) ≤ length l
+unfolding select
+select-length q [] = zero-le
+select-length q (i ∷ l) = by (q i) (select-length q l)
+  where
+    by : (b : Bool) → length (select q l) ≤ length l → length (cond b (i ∷ select q l) (select q l)) ≤ suc (length l)
+    by true h = suc-le-suc h
+    by false h = omega arith

@@ -1,0 +1,145 @@
+-- The on-time theorem for the dispatcher's lists of tasks: every level stays good, so every job ends in time.
+use Prim.Native.Nat.{ℕ, zero, suc, _+_, _≤_, _<_}
+use mathlib.Core.Path.{_≡_, refl, sym, ap, _∙_}
+use mathlib.Core.Logic.{_⊎_, inl, inr, ⊎-elim}
+use mathlib.Core.Bool.{Bool, true, false, cond, _&&_}
+use mathlib.Core.List.{List, [], _∷_, map}
+use native.Mathlib.Omega.{arith}
+use lib.ListN.{length, take, length-take, List·getD-map}
+use lib.Seq.{getD-take}
+use lib.Dec.{eqb}
+use borrow.Author.Tests.{eqb-true, eq-eqb}
+use Rattle.timing.specs.declared.Task.{Task}
+use Rattle.timing.specs.Tasks.{pending, named, withJob, released, finished, used, older}
+use Rattle.timing.specs.Calls.{Call, release, finish, tick, Answer, accepted, served, idle, refused, releaseAnswer, finishAnswer, ofNamed, firstPending, modify, answer, next, Entry, entry, log}
+use Rattle.timing.specs.Form.{Each, Sound, Form, Fresh}
+use Rattle.timing.specs.OnTime.{count, toTick, toFinish, servedTo, isAccepted, refusedWith, isTick, isRun, isFinish, isRefused, OnTime}
+use Rattle.timing.proofs.Rate.{sumOf}
+use Rattle.timing.proofs.Lists.{noTask, nth, each-imp, each-take, each-nth, pending-place}
+use Rattle.timing.proofs.Steps.{Release, is-early, is-late, starts, release-view, release-started, Finish, is-quiet, ends, finish-view, released-cases, changed-named, changed-pending, changed-nth, changed-found, bare, length-next, take-next}
+use Rattle.timing.proofs.Form.{each-of-map, figures-kept, form-kept}
+use Rattle.timing.proofs.Demand.{Demand, number-next, demand-kept}
+use Rattle.timing.proofs.Level.{Level, level-idle, level-kept, level-timely}
+use Rattle.timing.proofs.Machine.{Goes, Machine, machine-on-time}
+
+-- a state in form whose figures pass the demand test and whose levels are all good
+pub record Good (B w e : ℕ → ℕ) (s : List Task) : Type 0 where
+  pub form : Form s
+  pub demand : Demand B w s
+  pub budgets : Each (λ t. e (t .number) ≡ t .budget) s
+  pub levels : (k : ℕ) → k < length s → Level (w (nth s k .number)) (B k) 0 (take (suc k) s)
+
+-- a job that a call other than a tick leaves as it is
+goes-same : (x : Entry) {t t′ : Task} → count isTick (x ∷ []) ≡ 0 → t′ ≡ t → Goes x t t′
+goes-same x {t} {t′} n e = record {
+    number = ap (λ u. u .number) e;
+    left = omega (arith, ap (λ u. u .left) e);
+    age = omega (arith, ap (λ u. u .age) e)
+  }
+
+release-goes : (j : ℕ) (s : List Task) (i : ℕ) → 0 < nth s i .left → Goes (entry (release j) (answer (release j) s)) (nth s i) (nth (next (release j) s) i)
+unfolding next count isTick toTick
+release-goes j s i p = goes-same _ refl (⊎-elim (λ x. x) (λ h. h .1 ∙ released-cases (λ u. u ≡ nth s i) (nth s i) refl (λ x z. absurd (omega arith))) (changed-nth i (changed-named j released releaseAnswer s)))
+
+finish-counts : (j n : ℕ) (a : Answer) → n ≡ j → a ≡ accepted → 1 ≤ count (isFinish n) (entry (finish j) a ∷ [])
+unfolding count isFinish toFinish isAccepted
+finish-counts j n a d e = rw (e, eq-eqb j n (sym d)) (omega arith)
+
+finish-accepted : (t : Task) → 0 < t .left → finishAnswer t ≡ accepted
+finish-accepted t p = go (finish-view t)
+  where
+    go : {a : Answer} {t′ : Task} → Finish t a t′ → a ≡ accepted
+    go (is-quiet z) = absurd (omega arith)
+    go (ends k) = refl
+
+finish-goes : (j : ℕ) (s : List Task) (i : ℕ) → 0 < nth s i .left → (1 ≤ count (isFinish (nth s i .number)) (entry (finish j) (answer (finish j) s) ∷ [])) ⊎ Goes (entry (finish j) (answer (finish j) s)) (nth s i) (nth (next (finish j) s) i)
+unfolding next answer count isTick toTick named
+finish-goes j s i p = ⊎-elim (λ x. inr (goes-same _ refl x)) (λ h. inl (finish-counts j _ _ (eqb-true _ _ (h .0)) (h .2 ∙ finish-accepted _ p))) (changed-nth i (changed-named j finished finishAnswer s))
+
+run-counts : (j : ℕ) (a : Answer) → a ≡ served j → count (isRun j) (entry tick a ∷ []) ≡ 1
+unfolding count isRun toTick servedTo
+run-counts j a e = rw (e, eq-eqb j j refl)
+
+tick-goes : (s : List Task) (i : ℕ) → 0 < nth s i .left → nth s i .age < nth s i .period → Goes (entry tick (answer tick s)) (nth s i) (nth (next tick s) i)
+unfolding next answer older used withJob count isTick toTick
+tick-goes s i p y =
+    let e : nth (map older (modify pending used s)) i ≡ older (nth (modify pending used s) i) = List·getD-map older (modify pending used s) i noTask in
+    rw e (⊎-elim (λ x. rw x (record { number = refl; left = omega arith; age = omega arith })) (λ h. rw (h .1) (record { number = refl; left = omega (arith, run-counts (nth s i .number) (firstPending s) (h .2)); age = omega arith })) (changed-nth i (changed-pending used s)))
+
+-- the only Late answer is that of a task whose release is due while it is pending
+release-not-late : (t : Task) → (0 < t .left → t .age < t .period) → refusedWith 19 (releaseAnswer t) ≡ false
+unfolding refusedWith
+release-not-late t h = go (release-view t)
+  where
+    go : {a : Answer} {t′ : Task} → Release t a t′ → refusedWith 19 a ≡ false
+    go (is-early x) = refl
+    go (is-late x y) = absurd (omega (arith, h y))
+    go (starts x y) = refl
+
+finish-not-late : (t : Task) → refusedWith 19 (finishAnswer t) ≡ false
+unfolding refusedWith
+finish-not-late t = go (finish-view t)
+  where
+    go : {a : Answer} {t′ : Task} → Finish t a t′ → refusedWith 19 a ≡ false
+    go (is-quiet x) = refl
+    go (ends x) = refl
+
+module _ (B w e : ℕ → ℕ) where
+  pub good-kept : (c : Call) (s : List Task) → Good B w e s → Good B w e (next c s)
+  unfolding bare withJob
+  good-kept c s g = record {
+      form = form-kept c s (g .form);
+      demand = demand-kept B w c s (g .demand);
+      budgets = figures-kept (Each (λ t. e (t .number) ≡ t .budget)) (each-of-map (λ t. e (t .number) ≡ t .budget) bare) c s (g .budgets);
+      levels = λ k lt.
+        let lt′ : k < length s = omega (arith, length-next c s) in
+        rw (number-next c s k, take-next c (suc k) s) (level-kept c _ (B k) 0 (take (suc k) s) (g .demand .room k lt′) (omega arith) (each-take _ (suc k) s (each-imp s (λ t h. h .period-min) (g .form .sound))) (g .levels k lt′))
+    }
+
+  timely : (s : List Task) (i : ℕ) → Good B w e s → 0 < nth s i .left → nth s i .age + nth s i .left ≤ w (nth s i .number)
+  timely s i g p = level-timely _ (B i) 0 s i p (g .levels i (pending-place s i p))
+
+  -- so its age is below its period
+  young : (s : List Task) (i : ℕ) → Good B w e s → 0 < nth s i .left → nth s i .age < nth s i .period
+  young s i g p = omega (arith, timely s i g p, g .demand .within i (pending-place s i p))
+
+  moves : (c : Call) (s : List Task) (i : ℕ) → Good B w e s → 0 < nth s i .left → (1 ≤ count (isFinish (nth s i .number)) (entry c (answer c s) ∷ [])) ⊎ Goes (entry c (answer c s)) (nth s i) (nth (next c s) i)
+  moves (release j) s i g p = inr (release-goes j s i p)
+  moves (finish j) s i g p = finish-goes j s i p
+  moves tick s i g p = inr (tick-goes s i p (young s i g p))
+
+  not-late : (c : Call) (s : List Task) → Good B w e s → refusedWith 19 (answer c s) ≡ false
+  unfolding answer refusedWith
+  not-late (release j) s g = ⊎-elim (λ x. ap (refusedWith 19) x) (λ h. ap (refusedWith 19) (h .4) ∙ release-not-late _ (young s (h .0) g)) (changed-found (changed-named j released releaseAnswer s))
+  not-late (finish j) s g = ⊎-elim (λ x. ap (refusedWith 19) x) (λ h. ap (refusedWith 19) (h .4) ∙ finish-not-late _) (changed-found (changed-named j finished finishAnswer s))
+  not-late tick s g = ⊎-elim (λ x. ap (refusedWith 19) x) (λ h. ap (refusedWith 19) (h .4)) (changed-found (changed-pending used s))
+
+  begins : (j : ℕ) (s : List Task) → Good B w e s → answer (release j) s ≡ accepted → (i : ℕ) × (nth (next (release j) s) i .number ≡ j) × (nth (next (release j) s) i .left ≡ e j)
+  unfolding answer next named withJob
+  begins j s g a = ⊎-elim (λ x. (0, cc, cc)) (λ h. at (h .0) (h .1) (eqb-true _ _ (h .2)) (h .3 ∙ release-started _ (sym (h .4) ∙ a))) (changed-found (changed-named j released releaseAnswer s))
+    where
+      at : (i : ℕ) → i < length s → nth s i .number ≡ j → nth (next (release j) s) i ≡ withJob (nth s i) 0 (nth s i .budget) → (k : ℕ) × (nth (next (release j) s) k .number ≡ j) × (nth (next (release j) s) k .left ≡ e j)
+      at i lt n x = (i, ap (λ t. t .number) x ∙ n, ap (λ t. t .left) x ∙ sym (each-nth _ s i lt (g .budgets)) ∙ ap e n)
+
+  pub list-machine : Machine answer next (Good B w e) nth (λ s. w) (λ s. e)
+  unfolding count isRefused
+  list-machine = record {
+      kept = good-kept;
+      timely = timely;
+      moves = λ c s i g p. ⊎-elim inl (λ m. inr (m, refl)) (moves c s i g p);
+      begins = λ j s g a. let b = begins j s g a in (b .0, b .1, b .2, refl);
+      punctual = λ c s g. rw (not-late c s g)
+    }
+
+  -- a state in which nothing is pending is good, whatever the ages are
+  pub good-idle : (s : List Task) → Form s → Each (λ t. t .left ≡ 0) s → Demand B w s → Each (λ t. e (t .number) ≡ t .budget) s → Good B w e s
+  good-idle s f h d b = record {
+      form = f;
+      demand = d;
+      budgets = b;
+      levels = λ k lt. level-idle _ (B k) 0 (take (suc k) s) (each-take _ (suc k) s h)
+    }
+
+-- The on-time theorem. From a fresh state in form whose figures pass the demand test, every log obeys the on-time rule with the bounds w and the budgets e.
+pub on-time : (B w e : ℕ → ℕ) (s : List Task) → Form s → Each Fresh s → Demand B w s → Each (λ t. e (t .number) ≡ t .budget) s → (cs : List Call) → OnTime w e (log answer next s cs)
+on-time B w e s f h d b cs = machine-on-time answer next (Good B w e) nth w e (list-machine B w e) cs s (good-idle B w e s f (each-imp s (λ t x. x .left) h) d b)
