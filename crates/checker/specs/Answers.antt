@@ -1,5 +1,8 @@
 -- What the code's own steps answer.
-use Prim.Native.Nat.{ℕ}
+use Prim.Native.Nat.{ℕ, _*_, _≤_, _<_}
+use mathlib.Core.List.{List}
+use lib.Dec.{ltb}
+use Rattle.fit.specs.Answers.{loadInRange}
 use mathlib.Core.Bool.{Bool, cond}
 use mathlib.Core.Option.{Option, none, some}
 use Rattle.sheet.specs.Refusals.{numberOf}
@@ -37,3 +40,13 @@ findingOf (Broken w p) = some (record { number = numberOf w; place = p })
 unfoldable pub judged : Option ℕ → Bool → Judged
 judged none over = cond over Over Fitting
 judged (some i) over = Unchained i
+
+-- load above one, by the load that the code adds up
+unfoldable pub overInRange : (ℕ → ℕ) → (ℕ → ℕ) → ℕ → ℕ → ℕ → List ℕ → Bool
+overInRange e M Q D L l = ltb (Q * L) (loadInRange e M D L l)
+
+-- what rule 14's sum needs of core k: at most 64 tasks, and D and every M in range
+pub record InRange (f : Figures) (k : ℕ) : Type 0 where
+  pub count : f .tasks ≤ 64
+  pub factors : (i : ℕ) → i < f .tasks → f .factor i ≤ 120000
+  pub divisor : f .divisor k ≤ 120000

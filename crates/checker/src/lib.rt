@@ -4,12 +4,14 @@ ghost use mathlib.Core.Bool.{not, _||_};
 ghost use Prim.Native.Nat.{ℕ, _+_, _*_, _<_, _≤_};
 ghost use lib.ListN.{length, drop, getD};
 ghost use lib.Dec.{ltb, eqb};
-ghost use Rattle.sheet.specs.Records.{periodAt, budgetAt, coreAt, factorAt, pivotAt, divisorAt, figuresOf, figuresIn};
+ghost use mathlib.Core.List.{[], _∷_};
+ghost use Rattle.sheet.specs.Numbers.{word};
+ghost use Rattle.sheet.specs.Records.{taskCount, coreCount, periodAt, budgetAt, coreAt, factorAt, pivotAt, divisorAt, figuresOf, figuresIn};
 ghost use Rattle.fit.specs.Lists.{numbers, find, findSome};
 ghost use Rattle.checker.specs.Tests.{isMarked, taskSpares, coreSpares, isSet, badPeriod, badBudget, badCore, isOn, bare, badFactor, badPivot, stretchedAt, chainBreakOn, overloadedOn};
-ghost use Rattle.checker.specs.Rules.{frameRows, spareRows, taskRows, coreRows, fitRows, recordRows, offset};
+ghost use Rattle.checker.specs.Rules.{_at_, frameRows, spareRows, taskRows, coreRows, fitRows, recordRows, offset};
 ghost use Rattle.checker.specs.Verdict.{scan, verdict, outcome, outcomeOf};
-ghost use Rattle.checker.specs.Answers.{broken, foundOf, findingOf, judged};
+ghost use Rattle.checker.specs.Answers.{broken, foundOf, findingOf, judged, overInRange, InRange};
 
 use fit::Chain;
 use sheet::Refusal;
@@ -142,4 +144,183 @@ fn first(test: Test, tasks: &[u8], cores: &[u8], n: u8, c: u8, end: u8) -> Found
         i += 1;
     }
     Found::Nothing
+}
+
+// Rules 1 to 5, each over the whole sheet.
+
+fn is_stub(sheet: &[u8]) -> bool
+    ensures { λ r. ⌜ r ≡ ltb (length (now (sheet .entry))) 8 ⌝ }
+{
+    sheet.len() < 8
+}
+
+fn is_unmarked(sheet: &[u8]) -> bool
+    ensures { λ r. ⌜ r ≡ not (isMarked (now (sheet .entry))) ⌝ }
+{
+    let t = sheet::byte(sheet, 0);
+    let s = sheet::byte(sheet, 1);
+    let h = sheet::byte(sheet, 2);
+    !((t == 0x54) & ((s == 0x53) & (h == 0x48)))
+}
+
+fn is_other_version(sheet: &[u8]) -> bool
+    ensures { λ r. ⌜ r ≡ not (eqb (word (now (sheet .entry)) 3) 1) ⌝ }
+{
+    sheet::read_word(sheet, 3) != 1
+}
+
+fn is_over_count(sheet: &[u8]) -> bool
+    ensures { λ r. ⌜ r ≡ ltb 64 (taskCount (now (sheet .entry))) || ltb 8 (coreCount (now (sheet .entry))) ⌝ }
+{
+    let n = sheet::byte(sheet, 5);
+    let c = sheet::byte(sheet, 6);
+    (64 < n) | (8 < c)
+}
+
+fn is_other_length(sheet: &[u8]) -> bool
+    ensures { λ r. ⌜ r ≡ not (eqb (length (now (sheet .entry))) (8 + 10 * taskCount (now (sheet .entry)) + 8 * coreCount (now (sheet .entry)))) ⌝ }
+{
+    let n = sheet::byte(sheet, 5);
+    let c = sheet::byte(sheet, 6);
+    sheet.len() != 8 + 10 * (n as usize) + 8 * (c as usize)
+}
+
+fn framing(sheet: &[u8]) -> Finding
+    ensures { λ r. ⌜ findingOf r ≡ scan (frameRows (now (sheet .entry))) ⌝ }
+{
+    if is_stub(sheet) {
+        return Finding::Broken(Refusal::Stub, 0);
+    }
+    if is_unmarked(sheet) {
+        return Finding::Broken(Refusal::Mark, 0);
+    }
+    if is_other_version(sheet) {
+        return Finding::Broken(Refusal::Version, 0);
+    }
+    if is_over_count(sheet) {
+        return Finding::Broken(Refusal::Count, 0);
+    }
+    if is_other_length(sheet) {
+        return Finding::Broken(Refusal::Length, 0);
+    }
+    Finding::Clear
+}
+
+// Rule 6 in the task records and in the core records. `records` is the sheet's part from byte 8.
+
+fn task_spares(records: &[u8], n: u8) -> Finding
+    ensures { λ r. ⌜ findingOf r ≡ scan (6 at offset (find (isSet (now (records .entry))) (taskSpares 0 n)) ∷ []) ⌝ }
+{
+    let mut at = 0;
+    let mut i = 0;
+    while i < n {
+        if sheet::byte(records, at + 5) != 0 {
+            return Finding::Broken(Refusal::Spare, 8 + (at + 5) as u16);
+        }
+        at += 10;
+        i += 1;
+    }
+    Finding::Clear
+}
+
+fn core_spares(records: &[u8], n: u8, c: u8) -> Finding
+    ensures { λ r. ⌜ findingOf r ≡ scan (6 at offset (find (isSet (now (records .entry))) (coreSpares (10 * n) c)) ∷ []) ⌝ }
+{
+    let mut at = 10 * (n as usize);
+    let mut k = 0;
+    while k < c {
+        if sheet::byte(records, at + 2) != 0 {
+            return Finding::Broken(Refusal::Spare, 8 + (at + 2) as u16);
+        }
+        if sheet::byte(records, at + 3) != 0 {
+            return Finding::Broken(Refusal::Spare, 8 + (at + 3) as u16);
+        }
+        at += 8;
+        k += 1;
+    }
+    Finding::Clear
+}
+
+fn spare_rules(sheet: &[u8], records: &[u8], n: u8, c: u8) -> Finding
+    ensures { λ r. ⌜ findingOf r ≡ scan (spareRows n c (now (sheet .entry)) (now (records .entry))) ⌝ }
+{
+    if sheet::byte(sheet, 7) != 0 {
+        return Finding::Broken(Refusal::Spare, 7);
+    }
+    let found = task_spares(records, n);
+    if let Finding::Broken(_, _) = found {
+        return found;
+    }
+    core_spares(records, n, c)
+}
+
+// Rules 7 to 9.
+fn task_rules(tasks: &[u8], cores: &[u8], n: u8, c: u8) -> Finding
+    ensures { λ r. ⌜ findingOf r ≡ scan (taskRows (figuresOf n c (now (tasks .entry)) (now (cores .entry)))) ⌝ }
+{
+    let period = first(Test::Period, tasks, cores, n, c, n);
+    if let Found::At(i) = period {
+        return Finding::Broken(Refusal::Period, i as u16);
+    }
+    let budget = first(Test::Budget, tasks, cores, n, c, n);
+    if let Found::At(i) = budget {
+        return Finding::Broken(Refusal::Budget, i as u16);
+    }
+    let core = first(Test::Core, tasks, cores, n, c, n);
+    if let Found::At(i) = core {
+        return Finding::Broken(Refusal::Core, i as u16);
+    }
+    Finding::Clear
+}
+
+// Rules 10 to 12.
+fn core_rules(tasks: &[u8], cores: &[u8], n: u8, c: u8) -> Finding
+    ensures { λ r. ⌜ findingOf r ≡ scan (coreRows (figuresOf n c (now (tasks .entry)) (now (cores .entry)))) ⌝ }
+{
+    let bare = first(Test::Bare, tasks, cores, n, c, c);
+    if let Found::At(k) = bare {
+        return Finding::Broken(Refusal::Bare, 64 + (k as u16));
+    }
+    let factor = first(Test::Factor, tasks, cores, n, c, n);
+    if let Found::At(i) = factor {
+        return Finding::Broken(Refusal::Factor, i as u16);
+    }
+    let pivot = first(Test::Pivot, tasks, cores, n, c, c);
+    if let Found::At(k) = pivot {
+        return Finding::Broken(Refusal::Factor, 64 + (k as u16));
+    }
+    let stretch = first(Test::Stretch, tasks, cores, n, c, n);
+    if let Found::At(i) = stretch {
+        return Finding::Broken(Refusal::Stretch, i as u16);
+    }
+    Finding::Clear
+}
+
+// Whether the load of the listed tasks of core k, whose last factor is given, is above one.
+fn is_over(tasks: &[u8], cores: &[u8], list: &[u8], k: u8, last: u32) -> bool
+    ensures { λ r. ⌜ r ≡ overInRange (budgetAt (now (tasks .entry))) (factorAt (now (tasks .entry))) (pivotAt (now (cores .entry)) k) (divisorAt (now (cores .entry)) k) last (now (list .entry)) ⌝ }
+{
+    let load = fit::load_of(tasks, list, sheet::divisor(cores, k), last);
+    product(sheet::pivot(cores, k), last) < load
+}
+
+// Rules 13 and 14 at core k.
+fn judge(tasks: &[u8], cores: &[u8], n: u8, c: u8, k: u8) -> Judged
+    requires { ⌜ InRange (figuresOf n c (now tasks) (now cores)) k ⌝ }
+    ensures { λ r. ⌜ r ≡ judged (chainBreakOn (figuresOf n c (now (tasks .entry)) (now (cores .entry))) k) (overloadedOn (figuresOf n c (now (tasks .entry)) (now (cores .entry))) k) ⌝ }
+{
+    let order = fit::in_order(tasks, n, k);
+    let count = order.count;
+    let list = order.tasks;
+    let chain = fit::chain_of(tasks, &list[..count]);
+    match chain {
+        Chain::Broken(i) => Judged::Unchained(i),
+        Chain::Whole(last) => {
+            if is_over(tasks, cores, &list[..count], k, last) {
+                Judged::Over
+            } else {
+                Judged::Fitting
+            }
+        }
+    }
 }

@@ -1,11 +1,11 @@
 -- Levels, the first tasks of a list down to one of them: in a chain of factors the load of the whole list bounds the load of each level.
 -- Assumes nothing.
-use Prim.Native.Nat.{ℕ, zero, suc, _+_, _*_, _/_, _%_, _≤_, _<_}
+use Prim.Native.Nat.{ℕ, _+_, _*_, _/_, _%_, _≤_, _<_}
 use mathlib.Core.Path.{_≡_, refl, sym, ap, subst, _∙_}
 use mathlib.Core.Bool.{Bool, true, false, cond}
-use mathlib.Core.Option.{Option, none, some, Option·some-ne-none}
-use mathlib.Core.List.{List, [], _∷_, _++_, append-assoc}
-use native.Mathlib.Nat.{mul-one, mul-zero, zero-mul, mul-assoc, mul-comm, mul-div-right, div-self, mul-mod-right, div-add-mod, add-mul, le-trans, le-of-eq, le-of-mul-le-mul-right, lt-of-mul-lt-mul-left, le-div-iff-mul-le, div-le-of-le-mul}
+use mathlib.Core.Option.{none, some, Option·some-ne-none}
+use mathlib.Core.List.{List, [], _∷_, _++_}
+use native.Mathlib.Nat.{mul-one, mul-zero, zero-mul, mul-assoc, mul-comm, mul-div-right, div-self, mul-mod-right, div-add-mod, add-mul, le-of-mul-le-mul-right, lt-of-mul-lt-mul-left, le-div-iff-mul-le, div-le-of-le-mul}
 use native.Mathlib.Omega.{arith}
 use borrow.Author.Tests.{eqb-true, eq-eqb}
 use lib.Dec.{eqb}
@@ -23,9 +23,9 @@ multiple-trans : (a b c : ℕ) → Multiple a b → Multiple b c → Multiple a 
 unfolding Multiple
 multiple-trans a b c h k = (h .0 * k .0, k .1 ∙ rw (h .1) (mul-assoc a (h .0) (k .0)))
 
-multiple-even : (d m : ℕ) → m % d ≡ 0 → Multiple d m
+multiple-mod : (d m : ℕ) → m % d ≡ 0 → Multiple d m
 unfolding Multiple
-multiple-even d m h = (m / d, omega (arith, div-add-mod m d))
+multiple-mod d m h = (m / d, omega (arith, div-add-mod m d))
 
 -- a chain has no break where each factor is a multiple of the one before, and nowhere else
 pub chain-multiples : (M : ℕ → ℕ) (d : ℕ) (l : List ℕ) → chainBreak M d l ≡ none → Multiples M d l
@@ -34,7 +34,7 @@ chain-multiples M d [] h = tt
 chain-multiples M d (i ∷ l) h = by (eqb (M i % d) 0) refl h (λ q. chain-multiples M (M i) l q)
   where
     by : (b : Bool) → eqb (M i % d) 0 ≡ b → cond b (chainBreak M (M i) l) (some i) ≡ none → (chainBreak M (M i) l ≡ none → Multiples M (M i) l) → Multiple d (M i) × Multiples M (M i) l
-    by true e q r = (multiple-even d (M i) (eqb-true (M i % d) 0 e), r q)
+    by true e q r = (multiple-mod d (M i) (eqb-true (M i % d) 0 e), r q)
     by false e q r = absurd (Option·some-ne-none i q)
 
 pub multiples-chain : (M : ℕ → ℕ) (d : ℕ) (l : List ℕ) → Multiples M d l → chainBreak M d l ≡ none
@@ -65,7 +65,7 @@ unfolding Multiples lastFactor Each
 multiples-last M d [] h = tt
 multiples-last M d (i ∷ l) h = (first-last M (M i) l (h .1), multiples-last M (M i) l (h .1))
 
--- bounds of all factors bound the last
+-- what bounds all factors bounds the last, and it is positive if they are
 pub load-last : (M : ℕ → ℕ) (b d : ℕ) (l : List ℕ) → d ≤ b → Each (λ i. M i ≤ b) l → lastFactor M d l ≤ b
 unfolding lastFactor Each
 load-last M b d [] q h = q
@@ -76,11 +76,12 @@ unfolding lastFactor Each
 last-positive M d [] q h = q
 last-positive M d (i ∷ l) q h = last-positive M (M i) l (h .0) (h .1)
 
--- a time c times as long, over factors that divide it, has c times the load
+-- c times as much, divided
 div-scale : (k m c : ℕ) → 0 < k → Multiple k m → m * c / k ≡ m / k * c
 unfolding Multiple
 div-scale k m c pos h = rw (h .1, mul-assoc k (h .0) c, mul-div-right (h .0 * c) pos, mul-div-right (h .0) pos)
 
+-- at c times a multiple of all factors the load is c times as large
 load-scale : (e M : ℕ → ℕ) (D m c : ℕ) (l : List ℕ) → Each (λ i. 0 < M i) l → Each (λ i. Multiple (M i) m) l → load e M D (m * c) l ≡ load e M D m l * c
 unfolding load sum Each
 load-scale e M D m c [] pos h = sym (zero-mul c)
@@ -93,16 +94,17 @@ module _ (e M : ℕ → ℕ) (D Q : ℕ) (l : List ℕ) (chain : Multiples M 1 l
   pub level-load : (xs : List ℕ) (i : ℕ) (ys : List ℕ) → l ≡ xs ++ i ∷ ys → load e M D (M i) (xs ++ i ∷ []) ≤ Q * M i
   unfolding load Each Multiple
   level-load xs i ys s =
+      let L : ℕ = lastFactor M 1 l in
       let level : List ℕ = xs ++ i ∷ [] in
-      let t : l ≡ level ++ ys = s ∙ sym (append-snoc xs i ys) in
-      let factors : Each (λ j. Multiple (M j) (M i)) level =
-          each-append _ xs (i ∷ []) (pairs-before _ xs i ys (subst (EachPair (λ j k. Multiple (M j) (M k))) s (multiples-pairs M 1 l chain))) (multiple-self (M i), tt) in
-      let positive : Each (λ j. 0 < M j) level = each-halves _ level ys (subst (Each (λ j. 0 < M j)) t pos) .0 in
-      let (c, long) = each-between (λ j. Multiple (M j) (lastFactor M 1 l)) xs i ys s (multiples-last M 1 l chain) in
-      let part : load e M D (lastFactor M 1 l) l ≡ load e M D (lastFactor M 1 l) level + load e M D (lastFactor M 1 l) ys = ap (load e M D (lastFactor M 1 l)) t ∙ sum-append _ level ys in
-      let scaled : load e M D (M i * c) level ≤ Q * (M i * c) = rw (← long) (omega arith) in
-      let some-time : 0 < c = lt-of-mul-lt-mul-left (M i) (rw (mul-zero (M i), ← long) (last-positive M 1 l (omega arith) pos)) in
-      le-of-mul-le-mul-right (omega (arith, load-scale e M D (M i) c level positive factors, mul-assoc Q (M i) c)) some-time
+      let cut : l ≡ level ++ ys = s ∙ sym (append-snoc xs i ys) in
+      let part : load e M D L l ≡ load e M D L level + load e M D L ys = ap (load e M D L) cut ∙ sum-append _ level ys in
+      let positive : Each (λ j. 0 < M j) level = each-halves _ level ys (subst (Each (λ j. 0 < M j)) cut pos) .0 in
+      let before : Each (λ j. Multiple (M j) (M i)) xs = pairs-before _ xs i ys (subst (EachPair (λ j k. Multiple (M j) (M k))) s (multiples-pairs M 1 l chain)) in
+      let factors : Each (λ j. Multiple (M j) (M i)) level = each-append _ xs (i ∷ []) before (multiple-self (M i), tt) in
+      let (c, times) = each-between (λ j. Multiple (M j) L) xs i ys s (multiples-last M 1 l chain) in
+      let once : 0 < c = lt-of-mul-lt-mul-left (M i) (rw (mul-zero (M i), ← times) (last-positive M 1 l (omega arith) pos)) in
+      let whole : load e M D (M i * c) level ≤ Q * (M i * c) = rw (← times) (omega arith) in
+      le-of-mul-le-mul-right (omega (arith, load-scale e M D (M i) c level positive factors, mul-assoc Q (M i) c)) once
 
   -- each budget is within w of its factor
   pub budget-within : 0 < D → Each (λ i. e i ≤ within Q D (M i)) l
@@ -114,7 +116,7 @@ module _ (e M : ℕ → ℕ) (D Q : ℕ) (l : List ℕ) (chain : Multiples M 1 l
           let own : e i * D * (M i / M i) ≡ e i * D = rw (div-self (each-between (λ j. 0 < M j) xs i ys s pos), mul-one) in
           omega (arith, level-load xs i ys s, sum-append (λ j. e j * D * (M i / M j)) xs (i ∷ []))
 
--- the bound is at most the period where the factor is not above it
+-- w is at most the period where acceleration holds
 pub within-period : (Q D M p : ℕ) → Q * M ≤ p * D → within Q D M ≤ p
 unfolding within
 within-period Q D M p h = div-le-of-le-mul D (rw (mul-comm D p) h)

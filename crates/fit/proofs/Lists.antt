@@ -3,15 +3,15 @@
 use Prim.Native.Nat.{ℕ, zero, suc, _+_, _≤_, _<_, zero-le, suc-le-suc}
 use mathlib.Core.Path.{_≡_, refl, sym, ap, subst}
 use mathlib.Core.Bool.{Bool, true, false, cond}
-use mathlib.Core.List.{List, [], _∷_, _++_, append-assoc}
+use mathlib.Core.List.{List, [], _∷_, _++_}
 use native.Mathlib.Nat.{zero-add, add-zero}
 use native.Mathlib.Omega.{arith}
-use borrow.Author.Tests.{eqb-true, eq-eqb}
+use borrow.Author.Tests.{eqb-true}
 use lib.ListN.{length, take, getD}
 use lib.Dec.{eqb}
 use Rattle.fit.specs.Lists.{numbers, sum, select, occurs, Each, EachPair}
 
--- what follows from a property of one, or from two, holds for each of a list
+-- what follows for one from one property, or from two, follows for each of a list
 pub each-of : {A : Type 0} {P Q : A → Type 0} (l : List A) → ((x : A) → P x → Q x) → Each P l → Each Q l
 unfolding Each
 each-of [] f h = tt
@@ -23,6 +23,7 @@ each-both [] f h k = tt
 each-both (x ∷ l) f h k = (f x (h .0) (k .0), each-both l f (h .1) (k .1))
 
 module _ {A : Type 0} (P : A → Type 0) where
+  -- what holds for all
   pub each-all : (l : List A) → ((x : A) → P x) → Each P l
   unfolding Each
   each-all [] f = tt
@@ -39,20 +40,21 @@ module _ {A : Type 0} (P : A → Type 0) where
   each-halves [] ys h = (tt, h)
   each-halves (x ∷ xs) ys h = let r = each-halves xs ys (h .1) in ((h .0, r .0), r .1)
 
+  -- the first k of a list
   pub each-take : (k : ℕ) (l : List A) → Each P l → Each P (take k l)
   unfolding Each
   each-take zero l h = tt
   each-take (suc k) [] h = tt
   each-take (suc k) (x ∷ l) h = (h .0, each-take k l (h .1))
 
-  -- the one at a place, and where it holds at every place
+  -- the one at a place
   pub each-at : (d : A) (l : List A) (i : ℕ) → i < length l → Each P l → P (getD l i d)
   unfolding Each
   each-at d [] i q h = absurd (omega arith)
   each-at d (x ∷ l) zero q h = h .0
   each-at d (x ∷ l) (suc i) q h = each-at d l i (omega arith) (h .1)
 
-  -- a property of each is one of whatever stands between a front and a rest
+  -- each is whatever stands between a front and a rest
   pub each-split : (l : List A) → ((xs : List A) (x : A) (ys : List A) → l ≡ xs ++ x ∷ ys → P x) → Each P l
   unfolding Each
   each-split [] f = tt
@@ -63,6 +65,7 @@ module _ {A : Type 0} (P : A → Type 0) where
   each-between xs x ys e h = each-halves xs (x ∷ ys) (subst (Each P) e h) .1 .0
 
 module _ {A : Type 0} (R : A → A → Type 0) where
+  -- the first k of a list
   pub pairs-take : (k : ℕ) (l : List A) → EachPair R l → EachPair R (take k l)
   unfolding EachPair
   pairs-take zero l h = tt
@@ -133,6 +136,7 @@ pub sum-numbers : (f : ℕ → ℕ) (a n : ℕ) → sum f (numbers a (suc n)) �
 unfolding sum
 sum-numbers f a n = rw (numbers-last a n) (omega (arith, sum-append f (numbers a n) ((a + n) ∷ [])))
 
+-- how many numbers there are, and how many pass a test at most
 pub numbers-length : (a n : ℕ) → length (numbers a n) ≡ n
 unfolding numbers
 numbers-length a zero = refl

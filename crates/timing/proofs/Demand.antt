@@ -1,7 +1,8 @@
 -- The demand test: what the tasks of each level may ask for in w ticks, and a blocking term, fit in w ticks.
 use Prim.Native.Nat.{ℕ, suc, _+_, _*_, _-_, _/_, _≤_, _<_}
-use mathlib.Core.Path.{_≡_, refl, sym, ap, _∙_}
-use mathlib.Core.List.{List, map}
+use mathlib.Core.Path.{_≡_, sym, ap, _∙_}
+use mathlib.Core.List.{List}
+use native.Mathlib.Nat.{mul-le-mul-left, le-div-iff-mul-le}
 use native.Mathlib.Omega.{arith}
 use lib.ListN.{length, take}
 use Rattle.timing.specs.declared.Task.{Task}
@@ -9,7 +10,7 @@ use Rattle.timing.specs.Tasks.{withJob}
 use Rattle.timing.specs.Calls.{Call, next}
 use Rattle.timing.specs.Form.{Each}
 use Rattle.timing.proofs.Rate.{sumOf, rate}
-use Rattle.timing.proofs.Lists.{nth, nth-each, nth-le-sum, sum-map}
+use Rattle.timing.proofs.Lists.{nth, each-imp, nth-each, nth-le-sum, sum-le, sum-map}
 use Rattle.timing.proofs.Steps.{bare, bare-next, bare-nth, length-next, take-next}
 
 -- w is the bound by task number and B the blocking term by place; the level of a place is the list up to it
@@ -22,15 +23,22 @@ pub demand-bounds : (B w : ℕ → ℕ) (s : List Task) → Demand B w s → Eac
 unfolding rate
 demand-bounds B w s h = nth-each _ s (λ k lt. (omega (arith, h .room k lt, nth-le-sum (rate (w (nth s k .number))) s k lt), h .within k lt))
 
+-- From the load of a sheet: where k t bounds the releases of t in w = Q * M / D ticks, and the budgets of so many, with B, fit in Q * M / D, the level has room.
+pub room-of-load : (B Q D M : ℕ) (k : Task → ℕ) (s : List Task) → 0 < D → Each (λ t. (Q * M / D - 1) / t .period + 1 ≤ k t) s → (B + sumOf (λ t. t .budget * k t) s) * D ≤ Q * M → B + sumOf (rate (Q * M / D)) s ≤ Q * M / D
+unfolding rate
+room-of-load B Q D M k s hD most load = omega (arith, sum-le (rate (Q * M / D)) (λ t. t .budget * k t) s (each-imp s (λ t h. mul-le-mul-left (t .budget) h) most), le-div-iff-mul-le {k = D} {x = B + sumOf (λ t. t .budget * k t) s} {y = Q * M} hD .1 load)
+
 -- a call changes the demand of no level
 pub rate-next : (v : ℕ) (c : Call) (s : List Task) → sumOf (rate v) (next c s) ≡ sumOf (rate v) s
 unfolding rate bare withJob
 rate-next v c s = sym (sum-map (rate v) bare (next c s)) ∙ ap (sumOf (rate v)) (bare-next c s) ∙ sum-map (rate v) bare s
 
+-- nor the number at a place
 pub number-next : (c : Call) (s : List Task) (k : ℕ) → nth (next c s) k .number ≡ nth s k .number
 unfolding bare withJob
 number-next c s k = ap (λ t. t .number) (bare-nth c s k)
 
+-- so the demand test is passed after every call
 pub demand-kept : (B w : ℕ → ℕ) (c : Call) (s : List Task) → Demand B w s → Demand B w (next c s)
 unfolding bare withJob
 demand-kept B w c s h = record {

@@ -1,21 +1,22 @@
 -- Every call, accepted or refused, keeps the state's own form.
-use Prim.Native.Nat.{ℕ}
 use mathlib.Core.Path.{_≡_, refl, sym, ap, _∙_, subst}
 use mathlib.Core.List.{List, [], _∷_, map}
 use native.Mathlib.Omega.{arith}
 use Rattle.timing.specs.declared.Task.{Task}
 use Rattle.timing.specs.Tasks.{pending, withJob, released, finished, used, older}
-use Rattle.timing.specs.Calls.{Call, release, finish, tick, Answer, releaseAnswer, finishAnswer, modify, next}
+use Rattle.timing.specs.Calls.{Call, release, finish, tick, releaseAnswer, finishAnswer, modify, next}
 use Rattle.timing.specs.Form.{Each, EachPair, Sound, Distinct, Above, Form}
 use Rattle.timing.proofs.Lists.{each-map}
 use Rattle.timing.proofs.Runs.{run, run-kept}
 use Rattle.timing.proofs.Steps.{released-cases, finished-cases, changed-named, changed-pending, each-changed, bare, bare-next, length-next}
 
+-- a property of each changed task is the property, at the change, of each task
 pub each-of-map : (P : Task → Type 0) (g : Task → Task) (s : List Task) → Each P (map g s) ≡ Each (λ t. P (g t)) s
 unfolding Each
 each-of-map P g [] = refl
 each-of-map P g (t ∷ s) = ap (λ X. P (g t) × X) (each-of-map P g s)
 
+-- and so for pairs
 pair-of-map : (R : Task → Task → Type 0) (g : Task → Task) (s : List Task) → EachPair R (map g s) ≡ EachPair (λ t u. R (g t) (g u)) s
 unfolding EachPair
 pair-of-map R g [] = refl
@@ -25,6 +26,7 @@ pair-of-map R g (t ∷ s) = λ i. each-of-map (R (g t)) g s i × pair-of-map R g
 pub figures-kept : (P : List Task → Type 0) → ((s : List Task) → P (map bare s) ≡ P s) → (c : Call) (s : List Task) → P s → P (next c s)
 figures-kept P e c s h = subst (λ X. X) (sym (e s) ∙ ap P (sym (bare-next c s)) ∙ e (next c s)) h
 
+-- a call keeps each task sound
 sound-next : (c : Call) (s : List Task) → Each Sound s → Each Sound (next c s)
 unfolding next used older withJob
 sound-next (release j) s h = each-changed Sound (λ t k. released-cases Sound t k (λ x y. omega arith)) (changed-named j released releaseAnswer s) h

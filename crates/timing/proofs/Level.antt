@@ -1,13 +1,13 @@
 -- One level, the first tasks of a list by priority: while it is busy, its work and the ticks since it became busy fit in its bound.
-use Prim.Native.Nat.{ℕ, zero, suc, _+_, _-_, _≤_, _<_}
-use mathlib.Core.Path.{_≡_, refl, sym, ap, _∙_}
-use mathlib.Core.Logic.{_⊎_, inl, inr, ⊎-elim}
+use Prim.Native.Nat.{ℕ, suc, _+_, _-_, _≤_, _<_}
+use mathlib.Core.Path.{_≡_, refl}
+use mathlib.Core.Logic.{⊎-elim}
 use mathlib.Core.List.{List, [], _∷_, map}
 use native.Mathlib.Omega.{arith}
 use lib.ListN.{take}
 use borrow.Author.Tests.{ltb-true, ltb-false}
 use Rattle.timing.specs.declared.Task.{Task}
-use Rattle.timing.specs.Tasks.{pending, named, withJob, released, finished, used, older}
+use Rattle.timing.specs.Tasks.{pending, withJob, released, finished, used, older}
 use Rattle.timing.specs.Calls.{Call, release, finish, tick, Answer, releaseAnswer, finishAnswer, modify, next}
 use Rattle.timing.specs.Form.{Each}
 use Rattle.timing.proofs.Rate.{sumOf, rate, due, due-older, due-released, due-le-rate}
@@ -19,18 +19,24 @@ use Rattle.timing.proofs.Demand.{rate-next}
 abbrev pub work : List Task → ℕ
 work s = sumOf (λ t. t .left) s
 
+-- a job that is pending is at most b ticks old
+abbrev pub Young : ℕ → Task → Type 0
+Young b t = 0 < t .left → t .age ≤ b
+
 -- A level s that became busy b ticks ago. w is its bound, B a blocking term and r what is still held against it from below (both 0 where every tick goes to the first pending task).
 pub record Busy (w B r b : ℕ) (s : List Task) : Type 0 where
   -- the ticks since then and the work left come from releases since then, or from blocking
   pub paid : b + work s + r ≤ B + sumOf (due b) s
   -- no pending job is older
-  pub young : Each (λ t. 0 < t .left → t .age ≤ b) s
+  pub young : Each (Young b) s
+  -- together they fit in the bound
   pub fits : b + work s + r ≤ w
 
--- a level with work left is busy since some time
+-- a level with work left has been busy for some time
 unfoldable pub Level : (w B r : ℕ) (s : List Task) → Type 0
 Level w B r s = 0 < work s → (b : ℕ) × Busy w B r b s
 
+-- with nothing pending there is no work
 work-idle : (s : List Task) → Each (λ t. t .left ≡ 0) s → work s ≡ 0
 unfolding sumOf Each
 work-idle [] h = refl
@@ -41,6 +47,7 @@ pub level-idle : (w B r : ℕ) (s : List Task) → Each (λ t. t .left ≡ 0) s 
 unfolding Level
 level-idle w B r s h p = absurd (omega (arith, work-idle s h))
 
+-- the tick of the first pending task takes one from the work
 work-used : {f : Task → Answer} {d a : Answer} {s s′ : List Task} → 0 < work s → Changed pending used f d s s′ a → work s′ + 1 ≡ work s
 unfolding sumOf pending used withJob
 work-used h nowhere = absurd (omega arith)
@@ -62,7 +69,7 @@ busy-used w B r b s pos h =
     let y = sum-same (due b) (λ t. refl) c in
     record {
       paid = omega arith;
-      young = each-changed (λ t. 0 < t .left → t .age ≤ b) (λ t k p. k (omega arith)) c (h .young);
+      young = each-changed (Young b) (λ t k p. k (omega arith)) c (h .young);
       fits = omega arith
     }
 
@@ -74,10 +81,11 @@ busy-older w B r b s h =
     let y : sumOf (due b) s ≤ sumOf (due (b + 1)) (map older s) = rw sum-map (sum-le (due b) (λ t. due (b + 1) (older t)) s (each-all _ s (due-older b))) in
     record {
       paid = omega arith;
-      young = each-map (λ t. 0 < t .left → t .age ≤ b) (λ t. 0 < t .left → t .age ≤ b + 1) older s (λ t k p. omega (arith, k p)) (h .young);
+      young = each-map (Young b) (Young (b + 1)) older s (λ t k p. omega (arith, k p)) (h .young);
       fits = omega arith
     }
 
+-- a finish and a tick add no work
 work-finish : (j : ℕ) (s : List Task) → work (next (finish j) s) ≤ work s
 unfolding next withJob
 work-finish j s = sum-less (λ t. t .left) (λ t. finished-cases (λ u. u .left ≤ t .left) t (omega arith) (λ p. omega arith)) (changed-named j finished finishAnswer s)
@@ -86,7 +94,7 @@ work-tick : (s : List Task) → work (next tick s) ≤ work s
 unfolding next used withJob
 work-tick s = rw work-older (sum-less (λ t. t .left) (λ t. omega arith) (changed-pending used s))
 
--- a finish only takes work away
+-- a finish keeps a level busy as it was, with less work
 busy-finish : (w B r b j : ℕ) (s : List Task) → Busy w B r b s → Busy w B r b (next (finish j) s)
 unfolding next due withJob
 busy-finish w B r b j s h =
@@ -95,7 +103,7 @@ busy-finish w B r b j s h =
     let y = sum-same (due b) (λ t. finished-cases (λ u. due b u ≡ due b t) t refl (λ p. refl)) c in
     record {
       paid = omega arith;
-      young = each-changed (λ t. 0 < t .left → t .age ≤ b) (λ t k. finished-cases (λ u. 0 < u .left → u .age ≤ b) t k (λ p q. k p)) c (h .young);
+      young = each-changed (Young b) (λ t k. finished-cases (Young b) t k (λ p q. k p)) c (h .young);
       fits = omega arith
     }
 
@@ -109,7 +117,7 @@ busy-release w B r b j s room pos lt h =
     let z = rate-next w (release j) s in
     record {
       paid = omega arith;
-      young = each-changed (λ t. 0 < t .left → t .age ≤ b) (λ t k. released-cases (λ u. 0 < u .left → u .age ≤ b) t k (λ old z p. omega arith)) c (h .young);
+      young = each-changed (Young b) (λ t k. released-cases (Young b) t k (λ old z p. omega arith)) c (h .young);
       fits = omega arith
     }
 
@@ -122,7 +130,7 @@ busy-idle w B r s room held z = record {
     fits = omega arith
   }
   where
-    go : (l : List Task) → work l ≡ 0 → Each (λ t. 0 < t .left → t .age ≤ 0) l
+    go : (l : List Task) → work l ≡ 0 → Each (Young 0) l
     go [] e = tt
     go (t ∷ l) e = ((λ p. absurd (omega arith)), go l (omega arith))
 

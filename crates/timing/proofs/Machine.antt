@@ -1,8 +1,7 @@
 -- The on-time rule, proved once for every machine that has a few laws about its pending jobs.
-use Prim.Native.Nat.{ℕ, zero, suc, _+_, _≤_, _<_}
+use Prim.Native.Nat.{ℕ, _+_, _≤_, _<_}
 use mathlib.Core.Path.{_≡_, refl, sym, ap, subst, subst₂}
 use mathlib.Core.Logic.{_⊎_, inl, inr, ⊎-elim}
-use mathlib.Core.Bool.{Bool, true, false}
 use mathlib.Core.List.{List, [], _∷_, _++_}
 use native.Mathlib.Omega.{arith}
 use lib.Seq.{append-snoc}
@@ -31,11 +30,13 @@ pub record Machine {S : Type 0} (ask : Call → S → Answer) (step : Call → S
   -- no call is refused as Late
   pub punctual : (c : Call) (s : S) → Good s → count (isRefused 19) (entry c (ask c s) ∷ []) ≡ 0
 
+-- a job that ends over a log with what one entry more leaves of it, ends over both
 ended-cons : (x : Entry) (l : List Entry) (e e′ j j′ : ℕ) → j′ ≡ j → e ≤ e′ + count (isRun j) (x ∷ []) → Ended e′ j′ l → Ended e j (x ∷ l)
 unfolding Ended
 ended-cons x l e e′ j j′ same h d = ⊎-elim (λ r. inl (omega (arith, count-cons (isRun j) x l))) (λ f. inr (omega (arith, count-cons (isFinish j) x l))) (subst (λ k. Ended e′ k l) same d)
 
 module _ {S : Type 0} (ask : Call → S → Answer) (step : Call → S → S) (Good : S → Type 0) (view : S → ℕ → Task) (bound budget : S → ℕ → ℕ) (M : Machine ask step Good view bound budget) where
+  -- one entry more in front of a log over which the job ends
   follow-step : (c : Call) (l : List Entry) (s : S) (i : ℕ) → Good s → 0 < view s i .left → bound s (view s i .number) ≤ view s i .age + count isTick (entry c (ask c s) ∷ l) → (bound (step c s) (view (step c s) i .number) ≤ view (step c s) i .age + count isTick l → Ended (view (step c s) i .left) (view (step c s) i .number) l) → Ended (view s i .left) (view s i .number) (entry c (ask c s) ∷ l)
   unfolding Ended
   follow-step c l s i g pos b ih = ⊎-elim (λ f. inr (omega (arith, count-cons (isFinish (view s i .number)) (entry c (ask c s)) l))) (λ m. ended-cons (entry c (ask c s)) l _ _ _ _ (m .0 .number) (m .0 .left) (ih (omega (arith, m .0 .age, m .1, ap (bound (step c s)) (m .0 .number), count-cons isTick (entry c (ask c s)) l)))) (M .moves c s i g pos)
@@ -46,6 +47,7 @@ module _ {S : Type 0} (ask : Call → S → Answer) (step : Call → S → S) (G
   follow [] s i h g b = ⊎-elim (λ z. inl (omega arith)) (λ pos. absurd (omega (arith, M .timely s i g pos))) (zero-or-pos (view s i .left))
   follow (entry c a ∷ l) s i h g b = ⊎-elim (λ z. inl (omega arith)) (λ pos. rw (h .0) (follow-step c l s i g pos (rw (h .0) at b) (follow l (step c s) i (h .1) (M .kept c s g)))) (zero-or-pos (view s i .left))
 
+  -- from the release on: once the ticks of the log come to the bound
   from-release : (s : S) (j : ℕ) (l : List Entry) → Good s → ask (release j) s ≡ accepted → Logged ask step (step (release j) s) l → count isTick l ≡ bound s j → Ended (budget s j) j l
   from-release s j l g e h n =
       let b = M .begins j s g e in
@@ -60,6 +62,7 @@ module _ {S : Type 0} (ask : Call → S → Answer) (step : Call → S → S) (G
       let l = logged-append ask step (xs ++ entry tick a ∷ []) rest (step (release j) s₁) (rw append-snoc (h .1)) .0 in
       from-release s₁ j (xs ++ entry tick a ∷ []) (run-kept step Good (M .kept) (calls before) s g) (sym (h .0)) l (omega (arith, count-append isTick xs (entry tick a ∷ [])))
 
+  -- no call of a log is refused as Late
   pub never-late : (cs : List Call) (s : S) → Good s → count (isRefused 19) (log ask step s cs) ≡ 0
   unfolding count log
   never-late [] s g = refl

@@ -1,22 +1,19 @@
 -- The on-time theorem for the dispatcher's lists of tasks: every level stays good, so every job ends in time.
-use Prim.Native.Nat.{ℕ, zero, suc, _+_, _≤_, _<_}
+use Prim.Native.Nat.{ℕ, suc, _+_, _≤_, _<_}
 use mathlib.Core.Path.{_≡_, refl, sym, ap, _∙_}
 use mathlib.Core.Logic.{_⊎_, inl, inr, ⊎-elim}
-use mathlib.Core.Bool.{Bool, true, false, cond, _&&_}
+use mathlib.Core.Bool.{false}
 use mathlib.Core.List.{List, [], _∷_, map}
 use native.Mathlib.Omega.{arith}
-use lib.ListN.{length, take, length-take, List·getD-map}
-use lib.Seq.{getD-take}
-use lib.Dec.{eqb}
+use lib.ListN.{length, take, List·getD-map}
 use borrow.Author.Tests.{eqb-true, eq-eqb}
 use Rattle.timing.specs.declared.Task.{Task}
 use Rattle.timing.specs.Tasks.{pending, named, withJob, released, finished, used, older}
-use Rattle.timing.specs.Calls.{Call, release, finish, tick, Answer, accepted, served, idle, refused, releaseAnswer, finishAnswer, ofNamed, firstPending, modify, answer, next, Entry, entry, log}
-use Rattle.timing.specs.Form.{Each, Sound, Form, Fresh}
+use Rattle.timing.specs.Calls.{Call, release, finish, tick, Answer, accepted, served, releaseAnswer, finishAnswer, firstPending, modify, answer, next, Entry, entry, log}
+use Rattle.timing.specs.Form.{Each, Form, Fresh}
 use Rattle.timing.specs.OnTime.{count, toTick, toFinish, servedTo, isAccepted, refusedWith, isTick, isRun, isFinish, isRefused, OnTime}
-use Rattle.timing.proofs.Rate.{sumOf}
 use Rattle.timing.proofs.Lists.{noTask, nth, each-imp, each-take, each-nth, pending-place}
-use Rattle.timing.proofs.Steps.{Release, is-early, is-late, starts, release-view, release-started, Finish, is-quiet, ends, finish-view, released-cases, changed-named, changed-pending, changed-nth, changed-found, bare, length-next, take-next}
+use Rattle.timing.proofs.Steps.{Release, is-early, is-late, starts, release-view, release-started, Finish, is-quiet, ends, finish-view, released-cases, changed-named, changed-pending, changed-nth, changed-found, changed-answer, bare, length-next, take-next}
 use Rattle.timing.proofs.Form.{each-of-map, figures-kept, form-kept}
 use Rattle.timing.proofs.Demand.{Demand, number-next, demand-kept}
 use Rattle.timing.proofs.Level.{Level, level-idle, level-kept, level-timely}
@@ -37,6 +34,7 @@ goes-same x {t} {t′} n e = record {
     age = omega (arith, ap (λ u. u .age) e)
   }
 
+-- what each call does to a pending job
 release-goes : (j : ℕ) (s : List Task) (i : ℕ) → 0 < nth s i .left → Goes (entry (release j) (answer (release j) s)) (nth s i) (nth (next (release j) s) i)
 unfolding next count isTick toTick
 release-goes j s i p = goes-same _ refl (⊎-elim (λ x. x) (λ h. h .1 ∙ released-cases (λ u. u ≡ nth s i) (nth s i) refl (λ x z. absurd (omega arith))) (changed-nth i (changed-named j released releaseAnswer s)))
@@ -66,25 +64,31 @@ tick-goes s i p y =
     let e : nth (map older (modify pending used s)) i ≡ older (nth (modify pending used s) i) = List·getD-map older (modify pending used s) i noTask in
     rw e (⊎-elim (λ x. rw x (record { number = refl; left = omega arith; age = omega arith })) (λ h. rw (h .1) (record { number = refl; left = omega (arith, run-counts (nth s i .number) (firstPending s) (h .2)); age = omega arith })) (changed-nth i (changed-pending used s)))
 
+-- an answer other than Late (19)
+abbrev NotLate : Answer → Type 0
+NotLate a = refusedWith 19 a ≡ false
+
 -- the only Late answer is that of a task whose release is due while it is pending
-release-not-late : (t : Task) → (0 < t .left → t .age < t .period) → refusedWith 19 (releaseAnswer t) ≡ false
+release-not-late : (t : Task) → (0 < t .left → t .age < t .period) → NotLate (releaseAnswer t)
 unfolding refusedWith
 release-not-late t h = go (release-view t)
   where
-    go : {a : Answer} {t′ : Task} → Release t a t′ → refusedWith 19 a ≡ false
+    go : {a : Answer} {t′ : Task} → Release t a t′ → NotLate a
     go (is-early x) = refl
     go (is-late x y) = absurd (omega (arith, h y))
     go (starts x y) = refl
 
-finish-not-late : (t : Task) → refusedWith 19 (finishAnswer t) ≡ false
+-- and no finish is Late
+finish-not-late : (t : Task) → NotLate (finishAnswer t)
 unfolding refusedWith
 finish-not-late t = go (finish-view t)
   where
-    go : {a : Answer} {t′ : Task} → Finish t a t′ → refusedWith 19 a ≡ false
+    go : {a : Answer} {t′ : Task} → Finish t a t′ → NotLate a
     go (is-quiet x) = refl
     go (ends x) = refl
 
 module _ (B w e : ℕ → ℕ) where
+  -- every call keeps a good state good
   pub good-kept : (c : Call) (s : List Task) → Good B w e s → Good B w e (next c s)
   unfolding bare withJob
   good-kept c s g = record {
@@ -96,6 +100,7 @@ module _ (B w e : ℕ → ℕ) where
         rw (number-next c s k, take-next c (suc k) s) (level-kept c _ (B k) 0 (take (suc k) s) (g .demand .room k lt′) (omega arith) (each-take _ (suc k) s (each-imp s (λ t h. h .period-min) (g .form .sound))) (g .levels k lt′))
     }
 
+  -- a pending job still fits before its bound
   timely : (s : List Task) (i : ℕ) → Good B w e s → 0 < nth s i .left → nth s i .age + nth s i .left ≤ w (nth s i .number)
   timely s i g p = level-timely _ (B i) 0 s i p (g .levels i (pending-place s i p))
 
@@ -108,12 +113,14 @@ module _ (B w e : ℕ → ℕ) where
   moves (finish j) s i g p = finish-goes j s i p
   moves tick s i g p = inr (tick-goes s i p (young s i g p))
 
-  not-late : (c : Call) (s : List Task) → Good B w e s → refusedWith 19 (answer c s) ≡ false
+  -- no call is refused as Late
+  not-late : (c : Call) (s : List Task) → Good B w e s → NotLate (answer c s)
   unfolding answer refusedWith
-  not-late (release j) s g = ⊎-elim (λ x. ap (refusedWith 19) x) (λ h. ap (refusedWith 19) (h .4) ∙ release-not-late _ (young s (h .0) g)) (changed-found (changed-named j released releaseAnswer s))
-  not-late (finish j) s g = ⊎-elim (λ x. ap (refusedWith 19) x) (λ h. ap (refusedWith 19) (h .4) ∙ finish-not-late _) (changed-found (changed-named j finished finishAnswer s))
-  not-late tick s g = ⊎-elim (λ x. ap (refusedWith 19) x) (λ h. ap (refusedWith 19) (h .4)) (changed-found (changed-pending used s))
+  not-late (release j) s g = changed-answer NotLate refl (λ i. release-not-late _ (young s i g)) (changed-named j released releaseAnswer s)
+  not-late (finish j) s g = changed-answer NotLate refl (λ i. finish-not-late _) (changed-named j finished finishAnswer s)
+  not-late tick s g = changed-answer NotLate refl (λ i. refl) (changed-pending used s)
 
+  -- an accepted release starts a job of the whole budget
   begins : (j : ℕ) (s : List Task) → Good B w e s → answer (release j) s ≡ accepted → (i : ℕ) × (nth (next (release j) s) i .number ≡ j) × (nth (next (release j) s) i .left ≡ e j)
   unfolding answer next named withJob
   begins j s g a = ⊎-elim (λ x. (0, cc, cc)) (λ h. at (h .0) (h .1) (eqb-true _ _ (h .2)) (h .3 ∙ release-started _ (sym (h .4) ∙ a))) (changed-found (changed-named j released releaseAnswer s))
@@ -121,6 +128,7 @@ module _ (B w e : ℕ → ℕ) where
       at : (i : ℕ) → i < length s → nth s i .number ≡ j → nth (next (release j) s) i ≡ withJob (nth s i) 0 (nth s i .budget) → (k : ℕ) × (nth (next (release j) s) k .number ≡ j) × (nth (next (release j) s) k .left ≡ e j)
       at i lt n x = (i, ap (λ t. t .number) x ∙ n, ap (λ t. t .left) x ∙ sym (each-nth _ s i lt (g .budgets)) ∙ ap e n)
 
+  -- the laws of the on-time rule hold for lists of tasks
   pub list-machine : Machine answer next (Good B w e) nth (λ s. w) (λ s. e)
   unfolding count isRefused
   list-machine = record {

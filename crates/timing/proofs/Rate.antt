@@ -1,6 +1,6 @@
 -- The demand of one task, as plain arithmetic: what it may ask for in a window of w ticks, and what it may have asked for since a level became busy.
-use Prim.Native.Nat.{ℕ, zero, suc, _+_, _*_, _-_, _/_, _≤_, _<_, min}
-use mathlib.Core.Path.{_≡_, refl, ap, _∙_}
+use Prim.Native.Nat.{ℕ, zero, suc, _+_, _*_, _-_, _/_, _≤_, _<_}
+use mathlib.Core.Path.{_≡_, ap}
 use mathlib.Core.List.{List, [], _∷_}
 use native.Mathlib.Nat.{div-zero, div-mul-le-self, le-div-iff-mul-le, div-lt-iff-lt-mul, add-div-right, mul-le-mul-left, mul-le-mul-right, le-of-mul-le-mul-right}
 use native.Mathlib.Omega.{arith}
@@ -12,11 +12,11 @@ unfoldable pub sumOf : (Task → ℕ) → List Task → ℕ
 sumOf f [] = 0
 sumOf f (t ∷ s) = f t + sumOf f s
 
--- the demand of a task in w ticks: its budget for each release that fits in them
+-- the demand of a task in w ticks: its budget for each release that they can hold
 unfoldable pub rate : ℕ → Task → ℕ
 rate w t = t .budget * ((w - 1) / t .period + 1)
 
--- the budgets of all releases that a task of this age can have had in the last b ticks, and of those that were possible before them
+-- the most that a task of this age can have been given by its releases of the last b ticks: the latest is as old as its age, each one before it a period older
 unfoldable pub due : ℕ → Task → ℕ
 due b t = t .budget * ((b + (t .period - t .age)) / t .period)
 
@@ -27,6 +27,7 @@ rate-le Q D Mi Mj p k hD hp h e h1 =
     let most : Q * Mi / D ≤ k * p = le-of-mul-le-mul-right whole hD in
     omega (arith, div-lt-iff-lt-mul {k = p} {x = Q * Mi / D - 1} {y = k} hp .1 (omega arith))
 
+-- division keeps the order
 div-mono : (p x y : ℕ) → x ≤ y → x / p ≤ y / p
 div-mono zero x y h = omega (arith, div-zero x)
 div-mono (suc p) x y h = le-div-iff-mul-le {k = suc p} (omega arith) .1 (omega (arith, div-mul-le-self x (suc p)))

@@ -1,17 +1,16 @@
 -- What one call does to a list of tasks, and what it answers: at most the first task that passes a test changes.
 use Prim.Native.Nat.{ℕ, zero, suc, _+_, _≤_, _<_}
-use mathlib.Core.Path.{_≡_, refl, ap, _∙_}
+use mathlib.Core.Path.{_≡_, refl, sym, ap, _∙_}
 use mathlib.Core.Logic.{_⊎_, inl, inr, ⊎-elim}
 use mathlib.Core.Bool.{Bool, true, false, cond}
 use mathlib.Core.List.{List, [], _∷_, map}
 use native.Mathlib.Omega.{arith}
 use lib.ListN.{length, take, length-map, List·getD-map}
-use lib.Dec.{ltb}
 use borrow.Author.Tests.{ltb-true, ltb-false}
 use Rattle.timing.specs.declared.Task.{Task}
 use Rattle.timing.specs.Tasks.{pending, early, named, withJob, released, finished, used, older}
 use Rattle.timing.specs.Calls.{Call, release, finish, tick, Answer, accepted, served, idle, refused, releaseAnswer, finishAnswer, ofNamed, firstPending, modify, answer, next}
-use Rattle.timing.specs.Form.{Each, EachPair}
+use Rattle.timing.specs.Form.{Each}
 use Rattle.timing.proofs.Rate.{sumOf}
 use Rattle.timing.proofs.Lists.{noTask, nth, take-map}
 
@@ -21,6 +20,7 @@ pub data Release (t : Task) : Answer → Task → Type 0 where
   is-late : t .period ≤ t .age → 0 < t .left → Release t (refused 19 (t .number)) t
   starts : t .period ≤ t .age → t .left ≡ 0 → Release t accepted (withJob t 0 (t .budget))
 
+-- a release does one of the three
 pub release-view : (t : Task) → Release t (releaseAnswer t) (released t)
 unfolding releaseAnswer released early pending
 release-view t = go (early t) (pending t) refl refl
@@ -30,6 +30,7 @@ release-view t = go (early t) (pending t) refl refl
     go false true e f = is-late (ltb-false _ _ e) (ltb-true _ _ f)
     go false false e f = starts (ltb-false _ _ e) (omega (arith, ltb-false 0 (t .left) f))
 
+-- an accepted release starts a job
 pub release-started : (t : Task) → releaseAnswer t ≡ accepted → released t ≡ withJob t 0 (t .budget)
 release-started t e = go (release-view t) e
   where
@@ -52,6 +53,7 @@ pub data Finish (t : Task) : Answer → Task → Type 0 where
   is-quiet : t .left ≡ 0 → Finish t (refused 20 (t .number)) t
   ends : 0 < t .left → Finish t accepted (withJob t (t .age) 0)
 
+-- a finish does one of the two
 pub finish-view : (t : Task) → Finish t (finishAnswer t) (finished t)
 unfolding finishAnswer finished pending
 finish-view t = go (pending t) refl
@@ -74,15 +76,18 @@ pub data Changed (q : Task → Bool) (g : Task → Task) (f : Task → Answer) (
   here : {t : Task} {s : List Task} → q t ≡ true → Changed q g f d (t ∷ s) (g t ∷ s) (f t)
   later : {t : Task} {s s′ : List Task} {a : Answer} → q t ≡ false → Changed q g f d s s′ a → Changed q g f d (t ∷ s) (t ∷ s′) a
 
+-- one task more in front
 changed-cons : {q : Task → Bool} {g : Task → Task} {f : Task → Answer} {d a : Answer} {t : Task} {s s′ : List Task} (b : Bool) → q t ≡ b → Changed q g f d s s′ a → Changed q g f d (t ∷ s) (cond b (g t ∷ s) (t ∷ s′)) (cond b (f t) a)
 changed-cons true e c = here e
 changed-cons false e c = later e c
 
+-- a change of the task that is named, and its answer
 pub changed-named : (j : ℕ) (g : Task → Task) (f : Task → Answer) (s : List Task) → Changed (named j) g f (refused 17 0) s (modify (named j) g s) (ofNamed j f s)
 unfolding modify ofNamed
 changed-named j g f [] = nowhere
 changed-named j g f (t ∷ s) = changed-cons (named j t) refl (changed-named j g f s)
 
+-- a change of the first pending task, and the answer of a tick
 pub changed-pending : (g : Task → Task) (s : List Task) → Changed pending g (λ t. served (t .number)) idle s (modify pending g s) (firstPending s)
 unfolding modify firstPending
 changed-pending g [] = nowhere
@@ -103,6 +108,18 @@ module _ {q : Task → Bool} {g : Task → Task} {f : Task → Answer} {d : Answ
   changed-found (here e) = inr (zero, omega arith, e, refl, refl)
   changed-found (later e c) = ⊎-elim inl (λ h. inr (suc (h .0), omega (arith, h .1), h .2, h .3, h .4)) (changed-found c)
 
+  -- the answer is d or that of a place
+  pub changed-answer : (P : Answer → Type 0) {a : Answer} {s s′ : List Task} → P d → ((i : ℕ) → P (f (nth s i))) → Changed q g f d s s′ a → P a
+  changed-answer P h k nowhere = h
+  changed-answer P h k (here e) = k zero
+  changed-answer P h k (later e c) = changed-answer P h (λ i. k (suc i)) c
+
+  -- where a task that gives this answer stays as it is, so does the list
+  changed-same : {a : Answer} {s s′ : List Task} → ((t : Task) → a ≡ f t → g t ≡ t) → Changed q g f d s s′ a → s′ ≡ s
+  changed-same k nowhere = refl
+  changed-same k (here {t} {s} e) = ap (λ u. u ∷ s) (k t refl)
+  changed-same k (later {t} e c) = ap (λ l. t ∷ l) (changed-same k c)
+
   -- what the change keeps of the task that passes and answers, it keeps of each task
   pub each-hit : (P : Task → Type 0) {a : Answer} {s s′ : List Task} → ((t : Task) → q t ≡ true → a ≡ f t → P t → P (g t)) → Changed q g f d s s′ a → Each P s → Each P s′
   unfolding Each
@@ -110,22 +127,25 @@ module _ {q : Task → Bool} {g : Task → Task} {f : Task → Answer} {d : Answ
   each-hit P k (here e) h = (k _ e refl (h .0), h .1)
   each-hit P k (later e c) h = (h .0, each-hit P k c (h .1))
 
+  -- what the change keeps of every task, it keeps of each task of the list
   pub each-changed : (P : Task → Type 0) → ((t : Task) → P t → P (g t)) → {a : Answer} {s s′ : List Task} → Changed q g f d s s′ a → Each P s → Each P s′
   each-changed P k c h = each-hit P (λ t x y. k t) c h
 
-  -- sums of two figures of the tasks: where the change takes no more of the one than it gives to the other, it does so in the whole
+  -- two sums: where the change adds no more to the figure u of a task than to its figure v, it adds no more to the sum of u than to that of v
   pub sum-changed : (u v : Task → ℕ) {a : Answer} {s s′ : List Task} → Changed q g f d s s′ a → Each (λ t. u (g t) + v t ≤ u t + v (g t)) s → sumOf u s′ + sumOf v s ≤ sumOf u s + sumOf v s′
   unfolding Each sumOf
   sum-changed u v nowhere h = omega arith
   sum-changed u v (here e) h = omega (arith, h .0)
   sum-changed u v (later e c) h = omega (arith, sum-changed u v c (h .1))
 
+  -- a sum of figures that the change keeps stays
   pub sum-same : (u : Task → ℕ) → ((t : Task) → u (g t) ≡ u t) → {a : Answer} {s s′ : List Task} → Changed q g f d s s′ a → sumOf u s′ ≡ sumOf u s
   unfolding sumOf
   sum-same u k nowhere = refl
   sum-same u k (here {t} e) = omega (arith, k t)
   sum-same u k (later e c) = omega (arith, sum-same u k c)
 
+  -- a sum of figures that the change never raises does not rise
   pub sum-less : (u : Task → ℕ) → ((t : Task) → u (g t) ≤ u t) → {a : Answer} {s s′ : List Task} → Changed q g f d s s′ a → sumOf u s′ ≤ sumOf u s
   unfolding sumOf
   sum-less u k nowhere = omega arith
@@ -153,9 +173,11 @@ bare-next (release j) s = bare-changed (λ t. released-cases (λ u. bare u ≡ b
 bare-next (finish j) s = bare-changed (λ t. finished-cases (λ u. bare u ≡ bare t) t refl (λ x. refl)) (changed-named j finished finishAnswer s)
 bare-next tick s = bare-older (modify pending used s) ∙ bare-changed (λ t. refl) (changed-pending used s)
 
+-- a call keeps the number of tasks
 pub length-next : (c : Call) (s : List Task) → length (next c s) ≡ length s
 length-next c s = omega (arith, length-map (next c s) bare, length-map s bare, ap length (bare-next c s))
 
+-- and the figures of the task at each place
 pub bare-nth : (c : Call) (s : List Task) (i : ℕ) → bare (nth (next c s) i) ≡ bare (nth s i)
 unfolding bare withJob
 bare-nth c s i = cc (List·getD-map bare (next c s) i noTask, List·getD-map bare s i noTask, ap (λ l. nth l i) (bare-next c s))
@@ -176,3 +198,19 @@ unfolding next
 take-next (release j) k s = take-modify (named j) released k s
 take-next (finish j) k s = take-modify (named j) finished k s
 take-next tick k s = take-map older k (modify pending used s) ∙ ap (map older) (take-modify pending used k s)
+
+-- a refused call changes nothing
+pub refused-kept : (c : Call) (s : List Task) (n i : ℕ) → answer c s ≡ refused n i → next c s ≡ s
+unfolding answer next
+refused-kept (release j) s n i e = changed-same (λ t x. go (release-view t) (sym x ∙ e)) (changed-named j released releaseAnswer s)
+  where
+    go : {t t′ : Task} {a : Answer} → Release t a t′ → a ≡ refused n i → t′ ≡ t
+    go (is-early x) d = refl
+    go (is-late x y) d = refl
+    go (starts x y) d = cc
+refused-kept (finish j) s n i e = changed-same (λ t x. go (finish-view t) (sym x ∙ e)) (changed-named j finished finishAnswer s)
+  where
+    go : {t t′ : Task} {a : Answer} → Finish t a t′ → a ≡ refused n i → t′ ≡ t
+    go (is-quiet x) d = refl
+    go (ends x) d = cc
+refused-kept tick s n i e = changed-answer (λ a. a ≡ refused n i → map older (modify pending used s) ≡ s) (λ d. cc) (λ k d. cc) (changed-pending used s) e

@@ -1,0 +1,33 @@
+use borrow.Author.Needs.{needs}
+use Rattle.checker.proofs.is_over.Statement.{statement}
+use Rattle.checker.proofs.is_over.Tie as tie
+use Rattle.checker.proofs.is_over.Reads as reads
+use Rattle.checker.proofs.is_over.Lts as lts
+use Rattle.checker.proofs.product.Reads as product-reads
+use Rattle.fit.proofs.load_of.Reads as load-of-reads
+use Rattle.sheet.proofs.divisor.Reads as divisor-reads
+use Rattle.sheet.proofs.pivot.Reads as pivot-reads
+
+-- src/lib.rt:303:42
+divisor-requires : tie.Need-divisor-requires
+divisor-requires c κs = search needs
+
+-- src/lib.rt:303:9
+load-of-requires : tie.Need-load-of-requires
+load-of-requires c κs = search needs
+
+-- src/lib.rt:304:13
+pivot-requires : tie.Need-pivot-requires
+pivot-requires c κs = search needs
+
+-- src/lib.rt:304:5
+product-requires : tie.Need-product-requires
+product-requires c κs = search needs
+
+-- src/lib.rt:300:1
+returns : tie.Need-returns
+returns c = ?
+
+pub is-over-spec : {M : Type 1} → statement M
+is-over-spec =
+    tie.close (tie.spec divisor-requires load-of-requires pivot-requires product-requires returns)

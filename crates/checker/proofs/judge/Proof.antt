@@ -1,0 +1,73 @@
+use borrow.Author.Needs.{needs}
+use Rattle.checker.proofs.judge.Statement.{statement}
+use Rattle.checker.proofs.judge.Tie as tie
+use Rattle.checker.proofs.judge.Reads as reads
+use Rattle.checker.proofs.judge.Lts as lts
+use Rattle.checker.proofs.is_over.Reads as is-over-reads
+use Rattle.fit.proofs.chain_of.Reads as chain-of-reads
+use Rattle.fit.proofs.in_order.Reads as in-order-reads
+
+-- src/lib.rt:312:9
+in-order-requires : tie.Need-in-order-requires
+in-order-requires c κs = search needs
+
+-- src/lib.rt:315:38
+array-share-prefix-list : tie.Need-array-share-prefix-list
+array-share-prefix-list c = search needs
+
+-- src/lib.rt:315:38
+slice-aggregate-chain-of : tie.Need-slice-aggregate-chain-of
+slice-aggregate-chain-of c = ?
+
+-- src/lib.rt:315:9
+chain-of-requires : tie.Need-chain-of-requires
+chain-of-requires c κs = search needs
+
+-- src/lib.rt:317:23
+enum-known-chain : tie.Need-enum-known-chain
+enum-known-chain c = search needs
+
+-- src/lib.rt:318:22
+enum-known-chain-2 : tie.Need-enum-known-chain-2
+enum-known-chain-2 c = search needs
+
+-- src/lib.rt:319:38
+array-share-prefix-list-2 : tie.Need-array-share-prefix-list-2
+array-share-prefix-list-2 c = search needs
+
+-- src/lib.rt:319:38
+slice-aggregate-is-over : tie.Need-slice-aggregate-is-over
+slice-aggregate-is-over c = ?
+
+-- src/lib.rt:319:16
+is-over-requires : tie.Need-is-over-requires
+is-over-requires c κs = search needs
+
+-- src/lib.rt:308:1
+returns : tie.Need-returns
+returns c = ?
+
+-- src/lib.rt:308:1
+returns-2 : tie.Need-returns-2
+returns-2 c = ?
+
+-- src/lib.rt:308:1
+returns-3 : tie.Need-returns-3
+returns-3 c = ?
+
+pub judge-spec : {M : Type 1} → statement M
+judge-spec =
+    tie.close
+    (tie.spec
+    in-order-requires
+    array-share-prefix-list
+    slice-aggregate-chain-of
+    chain-of-requires
+    enum-known-chain
+    enum-known-chain-2
+    array-share-prefix-list-2
+    slice-aggregate-is-over
+    is-over-requires
+    returns
+    returns-2
+    returns-3)

@@ -1,0 +1,53 @@
+use borrow.Author.Needs.{needs}
+use Rattle.checker.proofs.Scans.{scan-skip, scan-hit, header-hit, header-clear, row-hit, row-skip}
+use Rattle.checker.proofs.spare_rules.Statement.{statement}
+use Rattle.checker.proofs.spare_rules.Tie as tie
+use Rattle.checker.proofs.spare_rules.Reads as reads
+use Rattle.checker.proofs.spare_rules.Lts as lts
+use Rattle.checker.proofs.core_spares.Reads as core-spares-reads
+use Rattle.checker.proofs.task_spares.Reads as task-spares-reads
+use Rattle.sheet.proofs.byte.Reads as byte-reads
+
+-- src/lib.rt:247:8
+byte-requires : tie.Need-byte-requires
+byte-requires c κs = search needs
+
+-- src/lib.rt:248:9
+returns : tie.Need-returns
+returns c = search (scan-hit, header-hit)
+
+-- src/lib.rt:250:9
+task-spares-requires : tie.Need-task-spares-requires
+task-spares-requires c κs = search needs
+
+-- src/lib.rt:252:9
+enum-told : tie.Need-enum-told
+enum-told c = search needs
+
+-- src/lib.rt:252:9
+returns-2 : tie.Need-returns-2
+returns-2 c = search (scan-skip, header-clear, row-hit)
+
+enum-told-2 : tie.Need-enum-told-2
+enum-told-2 c = search needs
+
+-- src/lib.rt:254:5
+core-spares-requires : tie.Need-core-spares-requires
+core-spares-requires c κs = search needs
+
+-- src/lib.rt:244:1
+returns-3 : tie.Need-returns-3
+returns-3 c = search (scan-skip, header-clear, row-skip)
+
+pub spare-rules-spec : {M : Type 1} → statement M
+spare-rules-spec =
+    tie.close
+    (tie.spec
+    byte-requires
+    returns
+    task-spares-requires
+    enum-told
+    returns-2
+    enum-told-2
+    core-spares-requires
+    returns-3)
