@@ -1,2 +1,3 @@
-pub mod Finds
-pub mod Scans
+pub mod Spares
+pub mod Bare
+pub mod Judging

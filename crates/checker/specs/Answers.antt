@@ -5,18 +5,13 @@ use lib.Dec.{ltb}
 use Rattle.fit.specs.Answers.{loadInRange}
 use mathlib.Core.Bool.{Bool, cond}
 use mathlib.Core.Option.{Option, none, some}
-use Rattle.sheet.specs.Refusals.{numberOf}
+use Rattle.sheet.specs.Ranges.{badPeriod, badBudget}
 use Rattle.sheet.specs.Records.{Figures}
 use Rattle.checker.specs.declared.Test.{Test}
 use Rattle.checker.specs.declared.Test.the-variants.{Period, Budget, Core, Bare, Factor, Pivot, Stretch}
-use Rattle.checker.specs.declared.Found.{Found}
-use Rattle.checker.specs.declared.Found.the-variants.{At, Nothing}
-use Rattle.checker.specs.declared.Finding.{Finding}
-use Rattle.checker.specs.declared.Finding.the-variants.{Clear, Broken}
 use Rattle.checker.specs.declared.Judged.{Judged}
 use Rattle.checker.specs.declared.Judged.the-variants.{Fitting, Over, Unchained}
-use Rattle.checker.specs.Tests.{badPeriod, badBudget, badCore, bare, badFactor, badPivot, stretchedAt}
-use Rattle.checker.specs.Verdict.{Refusal}
+use Rattle.checker.specs.Tests.{badCore, bare, badFactor, badPivot, stretchedAt}
 
 -- the rule that a test stands for
 abbrev pub broken : Test → Figures → ℕ → Bool
@@ -27,14 +22,6 @@ broken Bare f = bare (f .tasks) (f .core)
 broken Factor f = badFactor (f .factor)
 broken Pivot f = badPivot (f .pivot) (f .divisor)
 broken Stretch f = stretchedAt f
-
-abbrev pub foundOf : Found → Option ℕ
-foundOf (At i) = some i
-foundOf Nothing = none
-
-abbrev pub findingOf : Finding → Option Refusal
-findingOf Clear = none
-findingOf (Broken w p) = some (record { number = numberOf w; place = p })
 
 -- a core whose chain is broken, which is over, or which fits
 unfoldable pub judged : Option ℕ → Bool → Judged

@@ -1,29 +1,18 @@
--- Document 01, "Refused sheets and calls": the rules 1 to 14 as one table, read from the top. Each row has its number and the place
--- where its rule is broken first, if it is.
+-- Document 01, "Refused sheets and calls": the rules 1 to 14 as one table, read from the top.
 use Prim.Native.Nat.{ℕ, _+_, _*_}
-use mathlib.Core.Bool.{Bool, true, false, not, _||_}
-use mathlib.Core.Option.{Option, none, some, Option·map}
+use mathlib.Core.Bool.{not, _||_}
+use mathlib.Core.Option.{Option, Option·map}
 use mathlib.Core.List.{List, [], _∷_, _++_}
 use lib.ListN.{length, getD, drop}
 use lib.Dec.{ltb, eqb}
+use Rattle.sheet.specs.Table.{Row, _at_, whole, core}
+use Rattle.sheet.specs.Ranges.{badPeriod, badBudget}
 use Rattle.sheet.specs.Numbers.{word}
 use Rattle.sheet.specs.Records.{Figures, figuresIn, taskCount, coreCount}
 use Rattle.fit.specs.Lists.{numbers, find, findSome}
-use Rattle.checker.specs.Tests.{isMarked, taskSpares, coreSpares, isSet, badPeriod, badBudget, badCore, bare, badFactor, badPivot, stretchedAt, chainBreakOn, overloadedOn}
+use Rattle.checker.specs.Tests.{isMarked, taskSpares, coreSpares, isSet, badCore, bare, badFactor, badPivot, stretchedAt, chainBreakOn, overloadedOn}
 
-infix 68 _at_
-
-pub data Row : Type 0 where
-  _at_ : ℕ → Option ℕ → Row
-
--- a rule of the whole sheet has place 0, a core's place is 64 plus its number, and an offset in the part from byte 8 is 8 more in the sheet
-unfoldable pub whole : Bool → Option ℕ
-whole true = some 0
-whole false = none
-
-unfoldable pub core : Option ℕ → Option ℕ
-core o = Option·map (λ k. 64 + k) o
-
+-- an offset in the part from byte 8 is 8 more in the sheet
 unfoldable pub offset : Option ℕ → Option ℕ
 offset o = Option·map (λ a. 8 + a) o
 

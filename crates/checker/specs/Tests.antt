@@ -28,14 +28,6 @@ coreSpares a (suc c) = (a + 2) ∷ (a + 3) ∷ coreSpares (a + 8) c
 unfoldable pub isSet : List ℕ → ℕ → Bool
 isSet s at = not (eqb (getD s at 0) 0)
 
--- "p is 1 to 60,000"
-unfoldable pub badPeriod : (ℕ → ℕ) → ℕ → Bool
-badPeriod p i = eqb (p i) 0 || ltb 60000 (p i)
-
--- "e is 0 or above p"
-unfoldable pub badBudget : (ℕ → ℕ) → (ℕ → ℕ) → ℕ → Bool
-badBudget p e i = eqb (e i) 0 || ltb (p i) (e i)
-
 -- "core not below c"
 unfoldable pub badCore : ℕ → (ℕ → ℕ) → ℕ → Bool
 badCore c core i = leb c (core i)

@@ -1,30 +1,20 @@
 -- Document 01: the checker "answers the first that applies, or accepted with n and c."
 use Prim.Native.Nat.{ℕ}
 use mathlib.Core.Option.{Option, none, some}
-use mathlib.Core.List.{List, [], _∷_}
+use mathlib.Core.List.{List}
 use Rattle.sheet.specs.Refusals.{numberOf}
+use Rattle.sheet.specs.Table.{Refused, scan}
 use Rattle.sheet.specs.Records.{taskCount, coreCount}
-use Rattle.checker.specs.Rules.{Row, _at_, rules}
+use Rattle.checker.specs.Rules.{rules}
 use Rattle.checker.specs.declared.Verdict.{Verdict}
-use Rattle.checker.specs.declared.Verdict.the-variants.{Accepted, Refused}
-
--- "A refusal is its number and a place"
-pub record Refusal : Type 0 where
-  pub number : ℕ
-  pub place : ℕ
-
--- the first row of a table that has a place
-unfoldable pub scan : List Row → Option Refusal
-scan [] = none
-scan ((k at none) ∷ rows) = scan rows
-scan ((k at some x) ∷ rows) = some (record { number = k; place = x })
+use Rattle.checker.specs.declared.Verdict.the-variants.{Accepted, Refused as Turned}
 
 -- what the checker answers
 pub data Outcome : Type 0 where
   accepted : ℕ → ℕ → Outcome
   refused : ℕ → ℕ → Outcome
 
-unfoldable pub outcome : Option Refusal → ℕ → ℕ → Outcome
+unfoldable pub outcome : Option Refused → ℕ → ℕ → Outcome
 outcome none n c = accepted n c
 outcome (some r) n c = refused (r .number) (r .place)
 
@@ -35,4 +25,4 @@ verdict s = outcome (scan (rules s)) (taskCount s) (coreCount s)
 -- the code's answer as an outcome: a word is its number in document 01
 abbrev pub outcomeOf : Verdict → Outcome
 outcomeOf (Accepted n c) = accepted n c
-outcomeOf (Refused w p) = refused (numberOf w) p
+outcomeOf (Turned w p) = refused (numberOf w) p

@@ -5,15 +5,19 @@ ghost use Prim.Native.Nat.{ℕ, _+_, _*_, _<_, _≤_};
 ghost use lib.ListN.{length, drop, getD};
 ghost use lib.Dec.{ltb, eqb};
 ghost use mathlib.Core.List.{[], _∷_};
+ghost use Rattle.sheet.specs.Table.{_at_, scan, foundOf, findingOf};
+ghost use Rattle.sheet.specs.Ranges.{badPeriod, badBudget};
 ghost use Rattle.sheet.specs.Numbers.{word};
 ghost use Rattle.sheet.specs.Records.{taskCount, coreCount, periodAt, budgetAt, coreAt, factorAt, pivotAt, divisorAt, figuresOf, figuresIn};
 ghost use Rattle.fit.specs.Lists.{numbers, find, findSome};
-ghost use Rattle.checker.specs.Tests.{isMarked, taskSpares, coreSpares, isSet, badPeriod, badBudget, badCore, isOn, bare, badFactor, badPivot, stretchedAt, chainBreakOn, overloadedOn};
-ghost use Rattle.checker.specs.Rules.{_at_, frameRows, spareRows, taskRows, coreRows, fitRows, recordRows, offset};
-ghost use Rattle.checker.specs.Verdict.{scan, verdict, outcome, outcomeOf};
-ghost use Rattle.checker.specs.Answers.{broken, foundOf, findingOf, judged, overInRange, InRange};
+ghost use Rattle.checker.specs.Tests.{isMarked, taskSpares, coreSpares, isSet, badCore, isOn, bare, badFactor, badPivot, stretchedAt, chainBreakOn, overloadedOn};
+ghost use Rattle.checker.specs.Rules.{frameRows, spareRows, taskRows, coreRows, fitRows, recordRows, offset};
+ghost use Rattle.checker.specs.Verdict.{verdict, outcome, outcomeOf};
+ghost use Rattle.checker.specs.Answers.{broken, judged, overInRange, InRange};
 
 use fit::Chain;
+use sheet::Finding;
+use sheet::Found;
 use sheet::Refusal;
 
 // The checker's answer: the sheet's counts, or a refusal's word and place.
@@ -31,17 +35,6 @@ enum Test {
     Factor,
     Pivot,
     Stretch,
-}
-
-enum Found {
-    At(u8),
-    Nothing,
-}
-
-// What a group of rules finds.
-enum Finding {
-    Clear,
-    Broken(Refusal, u16),
 }
 
 // What a core is by rules 13 and 14.

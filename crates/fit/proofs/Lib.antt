@@ -3,3 +3,4 @@ pub mod Passes
 pub mod Lists
 pub mod Priority
 pub mod Levels
+pub mod Finds

@@ -1,3 +1,5 @@
 pub mod Refusals
+pub mod Table
+pub mod Ranges
 pub mod Numbers
 pub mod Records

@@ -33,6 +33,18 @@ pub enum Refusal {
     Start,
 }
 
+// The first place at which something was found.
+pub enum Found {
+    At(u8),
+    Nothing,
+}
+
+// What a group of rules finds.
+pub enum Finding {
+    Clear,
+    Broken(Refusal, u16),
+}
+
 pub fn number(word: Refusal) -> u8
     ensures { λ r. ⌜ r ≡ numberOf word ⌝ }
 {

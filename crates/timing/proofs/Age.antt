@@ -1,37 +1,23 @@
 -- A task's age counts the ticks since its last accepted release, up to its period.
 use Prim.Native.Nat.{ℕ, _+_, min}
 use mathlib.Core.Path.{_≡_, refl, sym, ap, _∙_, subst}
-use mathlib.Core.Bool.{Bool, false, _&&_}
-use mathlib.Core.List.{List, [], _∷_, _++_}
+use mathlib.Core.Bool.{Bool}
+use mathlib.Core.List.{List, [], _∷_}
 use native.Mathlib.Nat.{add-zero}
 use native.Mathlib.Omega.{arith}
-use lib.Dec.{eqb}
 use borrow.Author.Tests.{eqb-true, eqb-false, eq-eqb}
+use Rattle.fit.specs.Lists.{Each, EachPair}
+use Rattle.fit.proofs.Lists.{each-of}
 use Rattle.timing.specs.declared.Task.{Task}
 use Rattle.timing.specs.Tasks.{pending, named, withJob, released, finished, used, older}
-use Rattle.timing.specs.Calls.{Call, release, finish, tick, Answer, accepted, refused, releaseAnswer, finishAnswer, modify, answer, next, Entry, entry, log}
-use Rattle.timing.specs.Form.{Each, EachPair, Distinct, Form, Fresh}
+use Rattle.timing.specs.Calls.{Call, release, finish, tick, Answer, accepted, refused, releaseAnswer, finishAnswer, modify, answer, next, Entry, entry, log, run}
+use Rattle.timing.specs.Form.{Distinct, Form, Fresh}
 use Rattle.timing.specs.OnTime.{count, toTick, isTick, isAccepted}
-use Rattle.timing.proofs.Lists.{each-imp, each-map}
-use Rattle.timing.proofs.Runs.{run, calls, Logged, logged, run-log, log-split, count-cons}
+use Rattle.timing.specs.Serving.{isRelease, toRelease, AgeCounts}
+use Rattle.timing.proofs.Lists.{each-map}
+use Rattle.timing.proofs.Runs.{calls, Logged, logged, run-log, log-split, count-cons}
 use Rattle.timing.proofs.Steps.{Release, is-early, is-late, starts, release-view, release-started, finished-cases, Changed, nowhere, here, later, changed-named, changed-pending, each-hit, each-changed}
 use Rattle.timing.proofs.Form.{form-run}
-
-unfoldable pub toRelease : ℕ → Call → Bool
-toRelease j (release i) = eqb i j
-toRelease j (finish i) = false
-toRelease j tick = false
-
--- a release of the task that was accepted
-unfoldable pub isRelease : ℕ → Entry → Bool
-isRelease j (entry c a) = toRelease j c && isAccepted a
-
--- The ages of a state s after a log l.
-pub record AgeCounts (l : List Entry) (s : List Task) : Type 0 where
-  -- after the last accepted release of j: the ticks since then, up to the period
-  pub since : (before xs : List Entry) (j : ℕ) → l ≡ before ++ entry (release j) accepted ∷ xs → count (isRelease j) xs ≡ 0 → Each (λ t. t .number ≡ j → t .age ≡ min (count isTick xs) (t .period)) s
-  -- with no accepted release of j: the period
-  pub unreleased : (j : ℕ) → count (isRelease j) l ≡ 0 → Each (λ t. t .number ≡ j → t .age ≡ t .period) s
 
 -- the task numbered j has the age that it had n ticks ago, then f of its period, and those ticks
 abbrev Aged : ℕ → (ℕ → ℕ) → ℕ → Task → Type 0
@@ -69,7 +55,7 @@ aged-run j f n (entry c a ∷ l) s h k z = subst (λ m. Each (Aged j f m) (run n
 aged-start : (j : ℕ) {s s′ : List Task} {a : Answer} → Changed (named j) released releaseAnswer (refused 17 0) s s′ a → EachPair Distinct s → a ≡ accepted → Each (Aged j (λ p. 0) 0) s′
 unfolding Each EachPair Distinct named withJob
 aged-start j nowhere h e = tt
-aged-start j (here {t} {s} x) h e = ((λ n. rw (release-started t e) (omega arith)), each-imp s (λ u d n. absurd (d (eqb-true _ _ x ∙ sym n))) (h .0))
+aged-start j (here {t} {s} x) h e = ((λ n. rw (release-started t e) (omega arith)), each-of s (λ u d n. absurd (d (eqb-true _ _ x ∙ sym n))) (h .0))
 aged-start j (later {t} x c) h e = ((λ n. absurd (eqb-false _ _ x n)), aged-start j c (h .1) e)
 
 -- the ages after every list of calls from a fresh state in form
@@ -80,8 +66,8 @@ age-counts s f h cs = record {
       let r = log-split answer next cs s before _ e in
       let s₁ = run next s (calls before) in
       let x = aged-start j (changed-named j released releaseAnswer s₁) (form-run (calls before) s f .distinct) (sym (r .1 .0)) in
-      rw (r .2) (each-imp _ (λ t k n. omega (arith, k n)) (aged-run j (λ p. 0) 0 xs (next (release j) s₁) (r .1 .1) x z));
+      rw (r .2) (each-of _ (λ t k n. omega (arith, k n)) (aged-run j (λ p. 0) 0 xs (next (release j) s₁) (r .1 .1) x z));
     unreleased = λ j z.
-      let x = aged-run j (λ p. p) 0 (log answer next s cs) s (logged answer next cs s) (each-imp s (λ t k n. omega (arith, k .age)) h) z in
-      rw (← (run-log answer next cs s)) (each-imp _ (λ t k n. omega (arith, k n)) x)
+      let x = aged-run j (λ p. p) 0 (log answer next s cs) s (logged answer next cs s) (each-of s (λ t k n. omega (arith, k .age)) h) z in
+      rw (← (run-log answer next cs s)) (each-of _ (λ t k n. omega (arith, k n)) x)
   }

@@ -5,12 +5,14 @@ use mathlib.Core.List.{List}
 use native.Mathlib.Nat.{mul-le-mul-left, le-div-iff-mul-le}
 use native.Mathlib.Omega.{arith}
 use lib.ListN.{length, take}
+use Rattle.fit.specs.Lists.{Each}
+use Rattle.fit.proofs.Lists.{each-of}
 use Rattle.timing.specs.declared.Task.{Task}
 use Rattle.timing.specs.Tasks.{withJob}
 use Rattle.timing.specs.Calls.{Call, next}
-use Rattle.timing.specs.Form.{Each}
+use Rattle.timing.specs.Serving.{nth}
 use Rattle.timing.proofs.Rate.{sumOf, rate}
-use Rattle.timing.proofs.Lists.{nth, each-imp, nth-each, nth-le-sum, sum-le, sum-map}
+use Rattle.timing.proofs.Lists.{nth-each, nth-le-sum, sum-le, sum-map}
 use Rattle.timing.proofs.Steps.{bare, bare-next, bare-nth, length-next, take-next}
 
 -- w is the bound by task number and B the blocking term by place; the level of a place is the list up to it
@@ -26,7 +28,7 @@ demand-bounds B w s h = nth-each _ s (λ k lt. (omega (arith, h .room k lt, nth-
 -- From the load of a sheet: where k t bounds the releases of t in w = Q * M / D ticks, and the budgets of so many, with B, fit in Q * M / D, the level has room.
 pub room-of-load : (B Q D M : ℕ) (k : Task → ℕ) (s : List Task) → 0 < D → Each (λ t. (Q * M / D - 1) / t .period + 1 ≤ k t) s → (B + sumOf (λ t. t .budget * k t) s) * D ≤ Q * M → B + sumOf (rate (Q * M / D)) s ≤ Q * M / D
 unfolding rate
-room-of-load B Q D M k s hD most load = omega (arith, sum-le (rate (Q * M / D)) (λ t. t .budget * k t) s (each-imp s (λ t h. mul-le-mul-left (t .budget) h) most), le-div-iff-mul-le {k = D} {x = B + sumOf (λ t. t .budget * k t) s} {y = Q * M} hD .1 load)
+room-of-load B Q D M k s hD most load = omega (arith, sum-le (rate (Q * M / D)) (λ t. t .budget * k t) s (each-of s (λ t h. mul-le-mul-left (t .budget) h) most), le-div-iff-mul-le {k = D} {x = B + sumOf (λ t. t .budget * k t) s} {y = Q * M} hD .1 load)
 
 -- a call changes the demand of no level
 pub rate-next : (v : ℕ) (c : Call) (s : List Task) → sumOf (rate v) (next c s) ≡ sumOf (rate v) s

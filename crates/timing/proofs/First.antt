@@ -1,28 +1,23 @@
 -- A tick goes to the pending task of the highest priority, and is idle only where nothing is pending.
-use Prim.Native.Nat.{ℕ, suc, _<_}
+use Prim.Native.Nat.{ℕ, suc}
 use mathlib.Core.Path.{_≡_, refl}
-use mathlib.Core.Logic.{_⊎_, inl, inr}
+use mathlib.Core.Logic.{inl, inr}
 use mathlib.Core.List.{List}
 use native.Mathlib.Omega.{arith}
-use lib.ListN.{length}
 use borrow.Author.Tests.{ltb-true, ltb-false}
+use Rattle.fit.specs.Lists.{Each, EachPair}
+use Rattle.fit.proofs.Lists.{each-of}
 use Rattle.timing.specs.declared.Task.{Task}
 use Rattle.timing.specs.Tasks.{pending, used}
-use Rattle.timing.specs.Calls.{tick, Answer, served, idle, answer}
-use Rattle.timing.specs.Form.{Each, EachPair, Above, Form}
-use Rattle.timing.proofs.Lists.{nth, each-imp}
+use Rattle.timing.specs.Calls.{tick, Answer, served, idle, answer, tickAnswer}
+use Rattle.timing.specs.Form.{Above, Form}
+use Rattle.timing.specs.Serving.{nth, Foremost}
 use Rattle.timing.proofs.Steps.{Changed, nowhere, here, later, changed-pending}
 
--- the task at place i is pending, and every pending task is this one or stands below it
-pub record Foremost (s : List Task) (i : ℕ) : Type 0 where
-  pub place : i < length s
-  pub waits : 0 < nth s i .left
-  pub others : Each (λ u. 0 < u .left → (u ≡ nth s i) ⊎ Above (nth s i) u) s
-
-foremost : {g : Task → Task} {s s′ : List Task} {a : Answer} (j : ℕ) → Changed pending g (λ t. served (t .number)) idle s s′ a → EachPair Above s → a ≡ served j → (i : ℕ) × (nth s i .number ≡ j) × Foremost s i
+foremost : {g : Task → Task} {s s′ : List Task} {a : Answer} (j : ℕ) → Changed pending g tickAnswer idle s s′ a → EachPair Above s → a ≡ served j → (i : ℕ) × (nth s i .number ≡ j) × Foremost s i
 unfolding Each EachPair pending
 foremost j nowhere h e = (0, cc, absurd (let z : _≡_ {A = ℕ} 0 1 = cc in omega arith))
-foremost j (here {t} {s} p) h e = (0, cc, record { place = omega arith; waits = ltb-true _ _ p; others = ((λ x. inl refl), each-imp s (λ u k x. inr k) (h .0)) })
+foremost j (here {t} {s} p) h e = (0, cc, record { place = omega arith; waits = ltb-true _ _ p; others = ((λ x. inl refl), each-of s (λ u k x. inr k) (h .0)) })
 foremost j (later {t} {s} p c) h e =
     let r = foremost j c (h .1) e in
     (suc (r .0), r .1, record { place = omega (arith, r .2 .place); waits = r .2 .waits; others = ((λ x. absurd (omega (arith, ltb-false 0 (t .left) p))), r .2 .others) })
@@ -32,7 +27,7 @@ pub tick-first : (s : List Task) (j : ℕ) → Form s → answer tick s ≡ serv
 unfolding answer
 tick-first s j h e = foremost j (changed-pending used s) (h .ordered) e
 
-none-pending : {g : Task → Task} {s s′ : List Task} {a : Answer} → Changed pending g (λ t. served (t .number)) idle s s′ a → a ≡ idle → Each (λ t. t .left ≡ 0) s
+none-pending : {g : Task → Task} {s s′ : List Task} {a : Answer} → Changed pending g tickAnswer idle s s′ a → a ≡ idle → Each (λ t. t .left ≡ 0) s
 unfolding Each pending
 none-pending nowhere e = tt
 none-pending (here p) e = absurd (let z : _≡_ {A = ℕ} 0 1 = cc in omega arith)

@@ -2,12 +2,13 @@
 use mathlib.Core.Path.{_≡_, refl, sym, ap, _∙_, subst}
 use mathlib.Core.List.{List, [], _∷_, map}
 use native.Mathlib.Omega.{arith}
+use Rattle.fit.specs.Lists.{Each, EachPair}
 use Rattle.timing.specs.declared.Task.{Task}
 use Rattle.timing.specs.Tasks.{pending, withJob, released, finished, used, older}
-use Rattle.timing.specs.Calls.{Call, release, finish, tick, releaseAnswer, finishAnswer, modify, next}
-use Rattle.timing.specs.Form.{Each, EachPair, Sound, Distinct, Above, Form}
+use Rattle.timing.specs.Calls.{Call, release, finish, tick, releaseAnswer, finishAnswer, modify, next, run}
+use Rattle.timing.specs.Form.{Sound, Distinct, Above, Form}
 use Rattle.timing.proofs.Lists.{each-map}
-use Rattle.timing.proofs.Runs.{run, run-kept}
+use Rattle.timing.proofs.Runs.{run-kept}
 use Rattle.timing.proofs.Steps.{released-cases, finished-cases, changed-named, changed-pending, each-changed, bare, bare-next, length-next}
 
 -- a property of each changed task is the property, at the change, of each task

@@ -6,12 +6,14 @@ use mathlib.Core.List.{List, [], _∷_, map}
 use native.Mathlib.Omega.{arith}
 use lib.ListN.{take}
 use borrow.Author.Tests.{ltb-true, ltb-false}
+use Rattle.fit.specs.Lists.{Each}
+use Rattle.fit.proofs.Lists.{each-of, each-all}
 use Rattle.timing.specs.declared.Task.{Task}
 use Rattle.timing.specs.Tasks.{pending, withJob, released, finished, used, older}
 use Rattle.timing.specs.Calls.{Call, release, finish, tick, Answer, releaseAnswer, finishAnswer, modify, next}
-use Rattle.timing.specs.Form.{Each}
+use Rattle.timing.specs.Serving.{nth}
 use Rattle.timing.proofs.Rate.{sumOf, rate, due, due-older, due-released, due-le-rate}
-use Rattle.timing.proofs.Lists.{nth, zero-or-pos, each-all, each-imp, each-map, each-level, pending-place, nth-le-sum, sum-le, sum-map}
+use Rattle.timing.proofs.Lists.{zero-or-pos, each-map, each-level, pending-place, nth-le-sum, sum-le, sum-map}
 use Rattle.timing.proofs.Steps.{released-cases, finished-cases, Changed, nowhere, here, later, changed-named, changed-pending, each-changed, sum-changed, sum-same, sum-less}
 use Rattle.timing.proofs.Demand.{rate-next}
 
@@ -112,8 +114,8 @@ busy-release : (w B r b j : ℕ) (s : List Task) → B + sumOf (rate w) s ≤ w 
 unfolding next withJob
 busy-release w B r b j s room pos lt h =
     let c = changed-named j released releaseAnswer s in
-    let x = sum-changed (λ t. t .left) (due b) c (each-imp s (λ t p. released-cases (λ u. u .left + due b t ≤ t .left + due b u) t (omega arith) (λ old z. omega (arith, due-released b (t .budget) t p old))) pos) in
-    let y = sum-le (due b) (rate w) (next (release j) s) (each-imp _ (λ t p. due-le-rate w b t p lt) (each-changed (λ t. 0 < t .period) (λ t p. released-cases (λ u. 0 < u .period) t p (λ old z. p)) c pos)) in
+    let x = sum-changed (λ t. t .left) (due b) c (each-of s (λ t p. released-cases (λ u. u .left + due b t ≤ t .left + due b u) t (omega arith) (λ old z. omega (arith, due-released b (t .budget) t p old))) pos) in
+    let y = sum-le (due b) (rate w) (next (release j) s) (each-of _ (λ t p. due-le-rate w b t p lt) (each-changed (λ t. 0 < t .period) (λ t p. released-cases (λ u. 0 < u .period) t p (λ old z. p)) c pos)) in
     let z = rate-next w (release j) s in
     record {
       paid = omega arith;

@@ -4,42 +4,16 @@ use mathlib.Core.Path.{_≡_, refl, ap}
 use mathlib.Core.Logic.{_⊎_, inl, inr}
 use mathlib.Core.List.{List, [], _∷_, map}
 use native.Mathlib.Omega.{arith}
-use lib.ListN.{length, take, getD}
+use lib.ListN.{length, take}
+use Rattle.fit.specs.Lists.{Each}
 use Rattle.timing.specs.declared.Task.{Task}
-use Rattle.timing.specs.Form.{Each}
+use Rattle.timing.specs.Serving.{nth}
 use Rattle.timing.proofs.Rate.{sumOf}
-
--- the task that stands at no place
-abbrev pub noTask : Task
-noTask = record { period = 0; budget = 0; age = 0; left = 0; number = 0 }
-
--- the task at a place, in priority order from 0
-abbrev pub nth : List Task → ℕ → Task
-nth s i = getD s i noTask
 
 -- a number is zero or positive
 pub zero-or-pos : (n : ℕ) → (n ≡ 0) ⊎ (0 < n)
 zero-or-pos zero = inl refl
 zero-or-pos (suc n) = inr (omega arith)
-
--- what holds of every task holds of each task of a list
-pub each-all : (P : Task → Type 0) (s : List Task) → ((t : Task) → P t) → Each P s
-unfolding Each
-each-all P [] f = tt
-each-all P (t ∷ s) f = (f t, each-all P s f)
-
--- what follows for one task follows for each task of a list
-pub each-imp : {P Q : Task → Type 0} (s : List Task) → ((t : Task) → P t → Q t) → Each P s → Each Q s
-unfolding Each
-each-imp [] f h = tt
-each-imp (t ∷ s) f h = (f t (h .0), each-imp s f (h .1))
-
--- what holds of each task of a list holds of each of its first k tasks
-pub each-take : (P : Task → Type 0) (k : ℕ) (s : List Task) → Each P s → Each P (take k s)
-unfolding Each
-each-take P zero s h = tt
-each-take P (suc k) [] h = tt
-each-take P (suc k) (t ∷ s) h = (h .0, each-take P k s (h .1))
 
 -- what a change of one task gives, the same change of every task gives
 pub each-map : (P Q : Task → Type 0) (g : Task → Task) (s : List Task) → ((t : Task) → P t → Q (g t)) → Each P s → Each Q (map g s)
@@ -54,10 +28,7 @@ each-level P [] i lt h = absurd (omega arith)
 each-level P (t ∷ s) zero lt h = h .0
 each-level P (t ∷ s) (suc i) lt h = each-level P s i (omega arith) (h .1)
 
--- what holds of each task holds of the task at each place, and the other way round
-pub each-nth : (P : Task → Type 0) (s : List Task) (i : ℕ) → i < length s → Each P s → P (nth s i)
-each-nth P s i lt h = each-level P s i lt (each-take P (suc i) s h)
-
+-- what holds of the task at each place holds of each task
 pub nth-each : (P : Task → Type 0) (s : List Task) → ((i : ℕ) → i < length s → P (nth s i)) → Each P s
 unfolding Each
 nth-each P [] f = tt

@@ -7,12 +7,15 @@ use mathlib.Core.List.{List, [], _∷_, map}
 use native.Mathlib.Omega.{arith}
 use lib.ListN.{length, take, List·getD-map}
 use borrow.Author.Tests.{eqb-true, eq-eqb}
+use Rattle.fit.specs.Lists.{Each}
+use Rattle.fit.proofs.Lists.{each-of, each-take, each-at}
 use Rattle.timing.specs.declared.Task.{Task}
 use Rattle.timing.specs.Tasks.{pending, named, withJob, released, finished, used, older}
-use Rattle.timing.specs.Calls.{Call, release, finish, tick, Answer, accepted, served, releaseAnswer, finishAnswer, firstPending, modify, answer, next, Entry, entry, log}
-use Rattle.timing.specs.Form.{Each, Form, Fresh}
+use Rattle.timing.specs.Calls.{Call, release, finish, tick, Answer, accepted, served, releaseAnswer, finishAnswer, modify, answer, next, Entry, entry, log, ofFirst, tickAnswer, idle}
+use Rattle.timing.specs.Form.{Form, Fresh}
 use Rattle.timing.specs.OnTime.{count, toTick, toFinish, servedTo, isAccepted, refusedWith, isTick, isRun, isFinish, isRefused, OnTime}
-use Rattle.timing.proofs.Lists.{noTask, nth, each-imp, each-take, each-nth, pending-place}
+use Rattle.timing.specs.Serving.{noTask, nth}
+use Rattle.timing.proofs.Lists.{pending-place}
 use Rattle.timing.proofs.Steps.{Release, is-early, is-late, starts, release-view, release-started, Finish, is-quiet, ends, finish-view, released-cases, changed-named, changed-pending, changed-nth, changed-found, changed-answer, bare, length-next, take-next}
 use Rattle.timing.proofs.Form.{each-of-map, figures-kept, form-kept}
 use Rattle.timing.proofs.Demand.{Demand, number-next, demand-kept}
@@ -62,7 +65,7 @@ tick-goes : (s : List Task) (i : ℕ) → 0 < nth s i .left → nth s i .age < n
 unfolding next answer older used withJob count isTick toTick
 tick-goes s i p y =
     let e : nth (map older (modify pending used s)) i ≡ older (nth (modify pending used s) i) = List·getD-map older (modify pending used s) i noTask in
-    rw e (⊎-elim (λ x. rw x (record { number = refl; left = omega arith; age = omega arith })) (λ h. rw (h .1) (record { number = refl; left = omega (arith, run-counts (nth s i .number) (firstPending s) (h .2)); age = omega arith })) (changed-nth i (changed-pending used s)))
+    rw e (⊎-elim (λ x. rw x (record { number = refl; left = omega arith; age = omega arith })) (λ h. rw (h .1) (record { number = refl; left = omega (arith, run-counts (nth s i .number) (ofFirst pending tickAnswer idle s) (h .2)); age = omega arith })) (changed-nth i (changed-pending used s)))
 
 -- an answer other than Late (19)
 abbrev NotLate : Answer → Type 0
@@ -97,7 +100,7 @@ module _ (B w e : ℕ → ℕ) where
       budgets = figures-kept (Each (λ t. e (t .number) ≡ t .budget)) (each-of-map (λ t. e (t .number) ≡ t .budget) bare) c s (g .budgets);
       levels = λ k lt.
         let lt′ : k < length s = omega (arith, length-next c s) in
-        rw (number-next c s k, take-next c (suc k) s) (level-kept c _ (B k) 0 (take (suc k) s) (g .demand .room k lt′) (omega arith) (each-take _ (suc k) s (each-imp s (λ t h. h .period-min) (g .form .sound))) (g .levels k lt′))
+        rw (number-next c s k, take-next c (suc k) s) (level-kept c _ (B k) 0 (take (suc k) s) (g .demand .room k lt′) (omega arith) (each-take _ (suc k) s (each-of s (λ t h. h .period-min) (g .form .sound))) (g .levels k lt′))
     }
 
   -- a pending job still fits before its bound
@@ -126,7 +129,7 @@ module _ (B w e : ℕ → ℕ) where
   begins j s g a = ⊎-elim (λ x. (0, cc, cc)) (λ h. at (h .0) (h .1) (eqb-true _ _ (h .2)) (h .3 ∙ release-started _ (sym (h .4) ∙ a))) (changed-found (changed-named j released releaseAnswer s))
     where
       at : (i : ℕ) → i < length s → nth s i .number ≡ j → nth (next (release j) s) i ≡ withJob (nth s i) 0 (nth s i .budget) → (k : ℕ) × (nth (next (release j) s) k .number ≡ j) × (nth (next (release j) s) k .left ≡ e j)
-      at i lt n x = (i, ap (λ t. t .number) x ∙ n, ap (λ t. t .left) x ∙ sym (each-nth _ s i lt (g .budgets)) ∙ ap e n)
+      at i lt n x = (i, ap (λ t. t .number) x ∙ n, ap (λ t. t .left) x ∙ sym (each-at _ noTask s i lt (g .budgets)) ∙ ap e n)
 
   -- the laws of the on-time rule hold for lists of tasks
   pub list-machine : Machine answer next (Good B w e) nth (λ s. w) (λ s. e)
@@ -150,4 +153,4 @@ module _ (B w e : ℕ → ℕ) where
 
 -- The on-time theorem. From a fresh state in form whose figures pass the demand test, every log obeys the on-time rule with the bounds w and the budgets e.
 pub on-time : (B w e : ℕ → ℕ) (s : List Task) → Form s → Each Fresh s → Demand B w s → Each (λ t. e (t .number) ≡ t .budget) s → (cs : List Call) → OnTime w e (log answer next s cs)
-on-time B w e s f h d b cs = machine-on-time answer next (Good B w e) nth w e (list-machine B w e) cs s (good-idle B w e s f (each-imp s (λ t x. x .left) h) d b)
+on-time B w e s f h d b cs = machine-on-time answer next (Good B w e) nth w e (list-machine B w e) cs s (good-idle B w e s f (each-of s (λ t x. x .left) h) d b)

@@ -4,13 +4,8 @@ use mathlib.Core.Path.{_≡_, refl, sym, ap, _∙_, subst}
 use mathlib.Core.Bool.{Bool, true, false, cond}
 use mathlib.Core.List.{List, [], _∷_, _++_}
 use native.Mathlib.Omega.{arith}
-use Rattle.timing.specs.Calls.{Call, Answer, Entry, entry, log}
+use Rattle.timing.specs.Calls.{Call, Answer, Entry, entry, log, run}
 use Rattle.timing.specs.OnTime.{count}
-
--- the state after a list of calls
-unfoldable pub run : {S : Type 0} → (Call → S → S) → S → List Call → S
-run step s [] = s
-run step s (c ∷ cs) = run step (step c s) cs
 
 -- the calls of a log
 unfoldable pub calls : List Entry → List Call

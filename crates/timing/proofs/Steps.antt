@@ -7,12 +7,13 @@ use mathlib.Core.List.{List, [], _∷_, map}
 use native.Mathlib.Omega.{arith}
 use lib.ListN.{length, take, length-map, List·getD-map}
 use borrow.Author.Tests.{ltb-true, ltb-false}
+use Rattle.fit.specs.Lists.{Each}
 use Rattle.timing.specs.declared.Task.{Task}
 use Rattle.timing.specs.Tasks.{pending, early, named, withJob, released, finished, used, older}
-use Rattle.timing.specs.Calls.{Call, release, finish, tick, Answer, accepted, served, idle, refused, releaseAnswer, finishAnswer, ofNamed, firstPending, modify, answer, next}
-use Rattle.timing.specs.Form.{Each}
+use Rattle.timing.specs.Calls.{Call, release, finish, tick, Answer, accepted, idle, refused, releaseAnswer, finishAnswer, modify, answer, next, ofFirst, tickAnswer}
+use Rattle.timing.specs.Serving.{nth, noTask}
 use Rattle.timing.proofs.Rate.{sumOf}
-use Rattle.timing.proofs.Lists.{noTask, nth, take-map}
+use Rattle.timing.proofs.Lists.{take-map}
 
 -- a release of one task: its answer and the task after it
 pub data Release (t : Task) : Answer → Task → Type 0 where
@@ -81,17 +82,19 @@ changed-cons : {q : Task → Bool} {g : Task → Task} {f : Task → Answer} {d 
 changed-cons true e c = here e
 changed-cons false e c = later e c
 
--- a change of the task that is named, and its answer
-pub changed-named : (j : ℕ) (g : Task → Task) (f : Task → Answer) (s : List Task) → Changed (named j) g f (refused 17 0) s (modify (named j) g s) (ofNamed j f s)
-unfolding modify ofNamed
-changed-named j g f [] = nowhere
-changed-named j g f (t ∷ s) = changed-cons (named j t) refl (changed-named j g f s)
+-- the change of the first task that passes, and what it answers
+pub changed : (q : Task → Bool) (g : Task → Task) (f : Task → Answer) (d : Answer) (s : List Task) → Changed q g f d s (modify q g s) (ofFirst q f d s)
+unfolding modify ofFirst
+changed q g f d [] = nowhere
+changed q g f d (t ∷ s) = changed-cons (q t) refl (changed q g f d s)
 
--- a change of the first pending task, and the answer of a tick
-pub changed-pending : (g : Task → Task) (s : List Task) → Changed pending g (λ t. served (t .number)) idle s (modify pending g s) (firstPending s)
-unfolding modify firstPending
-changed-pending g [] = nowhere
-changed-pending g (t ∷ s) = changed-cons (pending t) refl (changed-pending g s)
+-- a change of the task that is named
+pub changed-named : (j : ℕ) (g : Task → Task) (f : Task → Answer) (s : List Task) → Changed (named j) g f (refused 17 0) s (modify (named j) g s) (ofFirst (named j) f (refused 17 0) s)
+changed-named j g f s = changed (named j) g f (refused 17 0) s
+
+-- a change of the first pending task
+pub changed-pending : (g : Task → Task) (s : List Task) → Changed pending g tickAnswer idle s (modify pending g s) (ofFirst pending tickAnswer idle s)
+changed-pending g s = changed pending g tickAnswer idle s
 
 module _ {q : Task → Bool} {g : Task → Task} {f : Task → Answer} {d : Answer} where
   -- a place of the list stays as it is, or it is the one that changes and answers

@@ -27,26 +27,25 @@ releaseAnswer t = cond (early t) (refused 18 (t .number)) (cond (pending t) (ref
 unfoldable pub finishAnswer : Task → Answer
 finishAnswer t = cond (pending t) accepted (refused 20 (t .number))
 
--- what the task with this number answers, or 17 Unlisted
-unfoldable pub ofNamed : ℕ → (Task → Answer) → List Task → Answer
-ofNamed j f [] = refused 17 0
-ofNamed j f (t ∷ s) = cond (named j t) (f t) (ofNamed j f s)
+-- a tick that goes to a task: "its task number is the answer"
+abbrev pub tickAnswer : Task → Answer
+tickAnswer t = served (t .number)
 
--- "the first pending task by priority .. its task number is the answer, else idle"
-unfoldable pub firstPending : List Task → Answer
-firstPending [] = idle
-firstPending (t ∷ s) = cond (pending t) (served (t .number)) (firstPending s)
+-- what the first task that passes a test answers, or d where none passes
+unfoldable pub ofFirst : (Task → Bool) → (Task → Answer) → Answer → List Task → Answer
+ofFirst q f d [] = d
+ofFirst q f d (t ∷ s) = cond (q t) (f t) (ofFirst q f d s)
 
 -- the list with its first task that passes a test changed
 unfoldable pub modify : (Task → Bool) → (Task → Task) → List Task → List Task
 modify q f [] = []
 modify q f (t ∷ s) = cond (q t) (f t ∷ s) (t ∷ modify q f s)
 
--- what a call answers
+-- what a call answers: of a number that no task has 17 Unlisted, of a tick "the first pending task by priority .. else idle"
 unfoldable pub answer : Call → List Task → Answer
-answer (release j) s = ofNamed j releaseAnswer s
-answer (finish j) s = ofNamed j finishAnswer s
-answer tick s = firstPending s
+answer (release j) s = ofFirst (named j) releaseAnswer (refused 17 0) s
+answer (finish j) s = ofFirst (named j) finishAnswer (refused 17 0) s
+answer tick s = ofFirst pending tickAnswer idle s
 
 -- the state that a call hands back
 unfoldable pub next : Call → List Task → List Task
@@ -62,3 +61,8 @@ pub data Entry : Type 0 where
 unfoldable pub log : {S : Type 0} → (Call → S → Answer) → (Call → S → S) → S → List Call → List Entry
 log ask step s [] = []
 log ask step s (c ∷ cs) = entry c (ask c s) ∷ log ask step (step c s) cs
+
+-- the state after a list of calls
+unfoldable pub run : {S : Type 0} → (Call → S → S) → S → List Call → S
+run step s [] = s
+run step s (c ∷ cs) = run step (step c s) cs

@@ -2,19 +2,10 @@
 use Prim.Native.Nat.{ℕ, _≤_, _<_}
 use mathlib.Core.Path.{_≡_}
 use mathlib.Core.Logic.{_⊎_}
-use mathlib.Core.List.{List, [], _∷_}
+use mathlib.Core.List.{List}
 use lib.ListN.{length}
+use Rattle.fit.specs.Lists.{Each, EachPair}
 use Rattle.timing.specs.declared.Task.{Task}
-
--- every task of a list has a property
-unfoldable pub Each : (Task → Type 0) → List Task → Type 0
-Each P [] = Unit {0}
-Each P (t ∷ s) = P t × Each P s
-
--- every task of a list stands in a relation to every task after it
-unfoldable pub EachPair : (Task → Task → Type 0) → List Task → Type 0
-EachPair R [] = Unit {0}
-EachPair R (t ∷ s) = Each (R t) s × EachPair R s
 
 -- a task's own fields: its number at most 63, p and e in range, age at most p, ticks left at most e
 pub record Sound (t : Task) : Type 0 where

@@ -2,3 +2,4 @@ pub mod Tasks
 pub mod Calls
 pub mod Form
 pub mod OnTime
+pub mod Serving

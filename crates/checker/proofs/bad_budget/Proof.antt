@@ -1,5 +1,5 @@
 use borrow.Author.Needs.{needs}
-use Rattle.checker.specs.Tests.{badBudget}
+use Rattle.sheet.specs.Ranges.{badBudget}
 use Rattle.checker.proofs.bad_budget.Statement.{statement}
 use Rattle.checker.proofs.bad_budget.Tie as tie
 use Rattle.checker.proofs.bad_budget.Reads as reads

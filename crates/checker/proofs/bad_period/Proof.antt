@@ -1,5 +1,5 @@
 use borrow.Author.Needs.{needs}
-use Rattle.checker.specs.Tests.{badPeriod}
+use Rattle.sheet.specs.Ranges.{badPeriod}
 use Rattle.checker.proofs.bad_period.Statement.{statement}
 use Rattle.checker.proofs.bad_period.Tie as tie
 use Rattle.checker.proofs.bad_period.Reads as reads

@@ -1,4 +1,5 @@
 use borrow.Author.Needs.{needs}
+use Rattle.sheet.proofs.Scans.{scan-skip, scan-hit, scan-none, found-at, found-none, core-at, core-none}
 use Rattle.checker.proofs.core_rules.Statement.{statement}
 use Rattle.checker.proofs.core_rules.Tie as tie
 use Rattle.checker.proofs.core_rules.Reads as reads
@@ -23,7 +24,7 @@ add-t16 c = search needs
 
 -- src/lib.rt:282:9
 returns : tie.Need-returns
-returns c = ?
+returns c = search (scan-skip, scan-hit, scan-none, found-at, found-none, core-at, core-none) depth 9
 
 enum-told : tie.Need-enum-told
 enum-told c = search needs
@@ -42,7 +43,7 @@ cast-t18 c = search needs
 
 -- src/lib.rt:286:9
 returns-2 : tie.Need-returns-2
-returns-2 c = ?
+returns-2 c = search (scan-skip, scan-hit, scan-none, found-at, found-none, core-at, core-none) depth 9
 
 enum-told-2 : tie.Need-enum-told-2
 enum-told-2 c = search needs
@@ -65,7 +66,7 @@ add-t21 c = search needs
 
 -- src/lib.rt:290:9
 returns-3 : tie.Need-returns-3
-returns-3 c = ?
+returns-3 c = search (scan-skip, scan-hit, scan-none, found-at, found-none, core-at, core-none) depth 9
 
 enum-told-3 : tie.Need-enum-told-3
 enum-told-3 c = search needs
@@ -84,14 +85,14 @@ cast-t23 c = search needs
 
 -- src/lib.rt:294:9
 returns-4 : tie.Need-returns-4
-returns-4 c = ?
+returns-4 c = search (scan-skip, scan-hit, scan-none, found-at, found-none, core-at, core-none) depth 9
 
 enum-told-4 : tie.Need-enum-told-4
 enum-told-4 c = search needs
 
 -- src/lib.rt:277:1
 returns-5 : tie.Need-returns-5
-returns-5 c = ?
+returns-5 c = search (scan-skip, scan-hit, scan-none, found-at, found-none, core-at, core-none) depth 9
 
 pub core-rules-spec : {M : Type 1} → statement M
 core-rules-spec =

@@ -2,7 +2,7 @@ use borrow.Author.Needs.{needs}
 use Prim.Native.Nat.{_≤_, _-_, _*_, _+_}
 use mathlib.Core.Path.{_≡_}
 use Rattle.checker.specs.Tests.{coreSpares}
-use Rattle.checker.proofs.Scans.{To, core-start, core-hit, core-hit-2, core-turn, core-end}
+use Rattle.checker.proofs.Spares.{To, core-start, core-hit, core-hit-2, core-turn, core-end}
 use Rattle.checker.proofs.core_spares.Statement.{statement}
 use Rattle.checker.proofs.core_spares.Tie as tie
 use Rattle.checker.proofs.core_spares.Reads as reads

@@ -2,7 +2,7 @@ use borrow.Author.Needs.{needs}
 use Prim.Native.Nat.{_≤_, _-_}
 use Rattle.sheet.specs.Records.{figuresOf}
 use Rattle.checker.specs.Answers.{broken}
-use Rattle.checker.proofs.Finds.{Left, find-start, find-hit, find-turn, find-end}
+use Rattle.fit.proofs.Finds.{Left, find-start, find-hit, find-turn, find-end}
 use Rattle.checker.proofs.first.Statement.{statement}
 use Rattle.checker.proofs.first.Tie as tie
 use Rattle.checker.proofs.first.Reads as reads

@@ -1,5 +1,5 @@
 use borrow.Author.Needs.{needs}
-use Rattle.checker.proofs.Scans.{scan-skip, scan-hit, scan-none, whole-true, whole-false}
+use Rattle.sheet.proofs.Scans.{scan-skip, scan-hit, scan-none, whole-true, whole-false}
 use Rattle.checker.proofs.framing.Statement.{statement}
 use Rattle.checker.proofs.framing.Tie as tie
 use Rattle.checker.proofs.framing.Reads as reads

@@ -2,7 +2,8 @@ use borrow.Author.Needs.{needs}
 use Prim.Native.Nat.{_≤_, _-_}
 use Rattle.sheet.specs.Records.{coreAt}
 use Rattle.checker.specs.Tests.{isOn}
-use Rattle.checker.proofs.Finds.{Left, find-start, bare-hit, bare-turn, bare-end}
+use Rattle.fit.proofs.Finds.{Left, find-start}
+use Rattle.checker.proofs.Bare.{bare-hit, bare-turn, bare-end}
 use Rattle.checker.proofs.is_bare.Statement.{statement}
 use Rattle.checker.proofs.is_bare.Tie as tie
 use Rattle.checker.proofs.is_bare.Reads as reads

@@ -1,4 +1,5 @@
 use borrow.Author.Needs.{needs}
+use Rattle.checker.specs.Answers.{overInRange}
 use Rattle.checker.proofs.is_over.Statement.{statement}
 use Rattle.checker.proofs.is_over.Tie as tie
 use Rattle.checker.proofs.is_over.Reads as reads
@@ -26,7 +27,8 @@ product-requires c κs = search needs
 
 -- src/lib.rt:300:1
 returns : tie.Need-returns
-returns c = ?
+unfolding overInRange
+returns c = cc
 
 pub is-over-spec : {M : Type 1} → statement M
 is-over-spec =

@@ -1,4 +1,5 @@
 use borrow.Author.Needs.{needs}
+use Rattle.checker.proofs.Judging.{ordered-length, judge-broken, judge-over, judge-fitting}
 use Rattle.checker.proofs.judge.Statement.{statement}
 use Rattle.checker.proofs.judge.Tie as tie
 use Rattle.checker.proofs.judge.Reads as reads
@@ -17,7 +18,7 @@ array-share-prefix-list c = search needs
 
 -- src/lib.rt:315:38
 slice-aggregate-chain-of : tie.Need-slice-aggregate-chain-of
-slice-aggregate-chain-of c = ?
+slice-aggregate-chain-of c = search ordered-length
 
 -- src/lib.rt:315:9
 chain-of-requires : tie.Need-chain-of-requires
@@ -37,7 +38,7 @@ array-share-prefix-list-2 c = search needs
 
 -- src/lib.rt:319:38
 slice-aggregate-is-over : tie.Need-slice-aggregate-is-over
-slice-aggregate-is-over c = ?
+slice-aggregate-is-over c = search ordered-length
 
 -- src/lib.rt:319:16
 is-over-requires : tie.Need-is-over-requires
@@ -45,15 +46,15 @@ is-over-requires c κs = search needs
 
 -- src/lib.rt:308:1
 returns : tie.Need-returns
-returns c = ?
+returns c = search judge-broken
 
 -- src/lib.rt:308:1
 returns-2 : tie.Need-returns-2
-returns-2 c = ?
+returns-2 c = search judge-over
 
 -- src/lib.rt:308:1
 returns-3 : tie.Need-returns-3
-returns-3 c = ?
+returns-3 c = search judge-fitting
 
 pub judge-spec : {M : Type 1} → statement M
 judge-spec =

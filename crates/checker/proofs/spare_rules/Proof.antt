@@ -1,5 +1,6 @@
 use borrow.Author.Needs.{needs}
-use Rattle.checker.proofs.Scans.{scan-skip, scan-hit, header-hit, header-clear, row-hit, row-skip}
+use Rattle.sheet.proofs.Scans.{scan-skip, scan-hit, row-hit, row-skip}
+use Rattle.checker.proofs.Spares.{header-hit, header-clear}
 use Rattle.checker.proofs.spare_rules.Statement.{statement}
 use Rattle.checker.proofs.spare_rules.Tie as tie
 use Rattle.checker.proofs.spare_rules.Reads as reads

@@ -1,5 +1,5 @@
 use borrow.Author.Needs.{needs}
-use Rattle.checker.proofs.Scans.{scan-skip, scan-hit, scan-none, found-at, found-none}
+use Rattle.sheet.proofs.Scans.{scan-skip, scan-hit, scan-none, found-at, found-none}
 use Rattle.checker.proofs.task_rules.Statement.{statement}
 use Rattle.checker.proofs.task_rules.Tie as tie
 use Rattle.checker.proofs.task_rules.Reads as reads

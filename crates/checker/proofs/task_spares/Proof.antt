@@ -2,7 +2,7 @@ use borrow.Author.Needs.{needs}
 use Prim.Native.Nat.{_≤_, _-_, _*_}
 use mathlib.Core.Path.{_≡_}
 use Rattle.checker.specs.Tests.{taskSpares}
-use Rattle.checker.proofs.Scans.{To, task-start, task-hit, task-turn, task-end}
+use Rattle.checker.proofs.Spares.{To, task-start, task-hit, task-turn, task-end}
 use Rattle.checker.proofs.task_spares.Statement.{statement}
 use Rattle.checker.proofs.task_spares.Tie as tie
 use Rattle.checker.proofs.task_spares.Reads as reads

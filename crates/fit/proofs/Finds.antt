@@ -1,17 +1,14 @@
 -- A search from the front, step by step as the code goes.
 -- Assumes nothing.
-use Prim.Native.Nat.{ℕ, zero, suc, _+_, _-_, _*_, _≤_, _<_}
-use mathlib.Core.Path.{_≡_, refl, sym, ap, _∙_}
-use mathlib.Core.Bool.{Bool, true, false, cond}
-use mathlib.Core.Option.{Option, none, some}
-use mathlib.Core.List.{List, [], _∷_}
-use native.Mathlib.Nat.{sub-zero, mul-lt-mul-of-pos-right}
+use Prim.Native.Nat.{ℕ, suc, _+_, _-_, _≤_, _<_}
+use mathlib.Core.Path.{_≡_, sym, _∙_}
+use mathlib.Core.Bool.{Bool, true, false}
+use mathlib.Core.Option.{none, some}
+use mathlib.Core.List.{_∷_}
+use native.Mathlib.Nat.{sub-zero}
 use native.Mathlib.Numerals.{add-one}
 use native.Mathlib.Omega.{arith}
-use borrow.Author.Tests.{eq-eqb, ne-eqb}
-use lib.Dec.{eqb}
 use Rattle.fit.specs.Lists.{numbers, find}
-use Rattle.checker.specs.Tests.{isOn, isNone, bare}
 
 -- nothing is found below i
 pub record Left (q : ℕ → Bool) (n i : ℕ) : Type 0 where
@@ -41,17 +38,3 @@ unfolding find numbers
 find-end q n i h l =
     let e : n - i ≡ 0 = omega arith in
     sym (l .rest ∙ rw e)
-
--- the search for a task on core k
-module _ (core : ℕ → ℕ) (n k i r : ℕ) (h : i < n) (l : Left (isOn core k) n i) (t : r ≡ core i) where
-  pub bare-hit : r ≡ k → false ≡ bare n core k
-  unfolding bare isNone isOn
-  bare-hit e = rw (← find-hit (isOn core k) n i true h l (sym (eq-eqb (core i) k (sym t ∙ e))) refl)
-
-  pub bare-turn : (r ≡ k → ⊥) → Left (isOn core k) n (i + 1)
-  unfolding isOn
-  bare-turn e = find-turn (isOn core k) n i false h l (sym (ne-eqb (core i) k (λ x. e (t ∙ x)))) refl
-
-pub bare-end : (core : ℕ → ℕ) (n k i : ℕ) → n ≤ i → Left (isOn core k) n i → true ≡ bare n core k
-unfolding bare isNone
-bare-end core n k i h l = rw (← find-end (isOn core k) n i h l)

@@ -1,0 +1,45 @@
+-- Document 01, "Refused sheets and calls": a refusal, and a table of rules that is read from the top.
+use Prim.Native.Nat.{ℕ, _+_}
+use mathlib.Core.Bool.{Bool, true, false}
+use mathlib.Core.Option.{Option, none, some, Option·map}
+use mathlib.Core.List.{List, [], _∷_}
+use Rattle.sheet.specs.declared.Found.{Found}
+use Rattle.sheet.specs.declared.Found.the-variants.{At, Nothing}
+use Rattle.sheet.specs.declared.Finding.{Finding}
+use Rattle.sheet.specs.declared.Finding.the-variants.{Clear, Broken}
+use Rattle.sheet.specs.Refusals.{numberOf}
+
+-- "A refusal is its number and a place"
+pub record Refused : Type 0 where
+  pub number : ℕ
+  pub place : ℕ
+
+-- a row has a rule's number and the place where the rule is broken first, if it is
+infix 68 _at_
+
+pub data Row : Type 0 where
+  _at_ : ℕ → Option ℕ → Row
+
+-- "It answers the first that applies": the first row that has a place
+unfoldable pub scan : List Row → Option Refused
+scan [] = none
+scan ((k at none) ∷ rows) = scan rows
+scan ((k at some x) ∷ rows) = some (record { number = k; place = x })
+
+-- a rule of the whole has place 0
+unfoldable pub whole : Bool → Option ℕ
+whole true = some 0
+whole false = none
+
+-- a core's place is "64 plus a core number"
+unfoldable pub core : Option ℕ → Option ℕ
+core o = Option·map (λ k. 64 + k) o
+
+-- what the code finds, as a place and as a refusal: a word is its number
+abbrev pub foundOf : Found → Option ℕ
+foundOf (At i) = some i
+foundOf Nothing = none
+
+abbrev pub findingOf : Finding → Option Refused
+findingOf Clear = none
+findingOf (Broken w p) = some (record { number = numberOf w; place = p })

@@ -1,0 +1,44 @@
+-- What document 01 says of ticks and ages, over whole states and logs: the tick goes to the first pending task by priority, and the age
+-- of a task counts the ticks since its last accepted release.
+use Prim.Native.Nat.{ℕ, _<_, min}
+use mathlib.Core.Path.{_≡_}
+use mathlib.Core.Logic.{_⊎_}
+use mathlib.Core.Bool.{Bool, false, _&&_}
+use mathlib.Core.List.{List, _∷_, _++_}
+use lib.Dec.{eqb}
+use lib.ListN.{length, getD}
+use Rattle.fit.specs.Lists.{Each}
+use Rattle.timing.specs.declared.Task.{Task}
+use Rattle.timing.specs.Calls.{Call, release, finish, tick, accepted, Entry, entry}
+use Rattle.timing.specs.Form.{Above}
+use Rattle.timing.specs.OnTime.{count, isTick, isAccepted}
+
+-- the task that stands at no place
+abbrev pub noTask : Task
+noTask = record { period = 0; budget = 0; age = 0; left = 0; number = 0 }
+
+-- the task at a place, in priority order from 0
+abbrev pub nth : List Task → ℕ → Task
+nth s i = getD s i noTask
+
+-- the task at place i is pending, and every pending task is this one or stands below it
+pub record Foremost (s : List Task) (i : ℕ) : Type 0 where
+  pub place : i < length s
+  pub waits : 0 < nth s i .left
+  pub others : Each (λ u. 0 < u .left → (u ≡ nth s i) ⊎ Above (nth s i) u) s
+
+unfoldable pub toRelease : ℕ → Call → Bool
+toRelease j (release i) = eqb i j
+toRelease j (finish i) = false
+toRelease j tick = false
+
+-- a release of the task that was accepted
+unfoldable pub isRelease : ℕ → Entry → Bool
+isRelease j (entry c a) = toRelease j c && isAccepted a
+
+-- the ages of a state s after a log l that began with a fresh state
+pub record AgeCounts (l : List Entry) (s : List Task) : Type 0 where
+  -- after the last accepted release of j: the ticks since then, up to the period
+  pub since : (before xs : List Entry) (j : ℕ) → l ≡ before ++ entry (release j) accepted ∷ xs → count (isRelease j) xs ≡ 0 → Each (λ t. t .number ≡ j → t .age ≡ min (count isTick xs) (t .period)) s
+  -- with no accepted release of j: the period
+  pub unreleased : (j : ℕ) → count (isRelease j) l ≡ 0 → Each (λ t. t .number ≡ j → t .age ≡ t .period) s
