@@ -1,30 +1,32 @@
 -- Rules 13 and 14 at one core: what the code finds of its tasks in priority order is what the rules say.
 -- Assumes nothing.
-use Prim.Native.Nat.{ℕ, zero, suc, _*_, _≤_, _<_, min}
+use Prim.Native.Nat.{ℕ, _+_, _-_, _*_, _≤_, _<_, min}
 use mathlib.Core.Path.{_≡_, refl, sym, ap, _∙_}
 use mathlib.Core.Bool.{Bool, true, false, cond}
 use mathlib.Core.Option.{Option, none, some}
-use mathlib.Core.List.{List}
+use mathlib.Core.List.{List, []}
 use native.Mathlib.Omega.{arith}
-use native.Mathlib.Nat.{le-trans}
-use borrow.Author.Tests.{le-leb}
+use native.Mathlib.Nat.{le-trans, sub-zero}
+use native.Mathlib.Decide.{ℕ-discrete}
+use borrow.Author.Tests.{le-leb, ne-eqb}
 use lib.ListN.{length, take, length-take}
-use lib.Dec.{ltb}
+use lib.Dec.{ltb, eqb}
 use Rattle.sheet.specs.Records.{Figures}
 use Rattle.fit.specs.declared.Order.{Order}
 use Rattle.fit.specs.declared.Chain.{Chain}
 use Rattle.fit.specs.declared.Chain.the-variants.{Whole, Broken}
-use Rattle.fit.specs.Lists.{Each}
+use Rattle.fit.specs.Lists.{Each, numbers, find, findSome}
 use Rattle.fit.specs.Priority.{order}
 use Rattle.fit.specs.Fits.{chainBreak, lastFactor, load, overloaded}
 use Rattle.fit.specs.Answers.{Ordered, chainAnswer, chained, loadInRange}
 use Rattle.fit.proofs.Lists.{each-of}
+use Rattle.fit.proofs.Finds.{front}
 use Rattle.fit.proofs.Priority.{order-members, order-count}
 use Rattle.fit.proofs.Levels.{load-last}
 use Rattle.checker.specs.declared.Judged.{Judged}
-use Rattle.checker.specs.declared.Judged.the-variants.{Fitting, Over, Unchained}
+use Rattle.checker.specs.declared.Judged.the-variants.{Chained, Unchained}
 use Rattle.checker.specs.Tests.{orderOn, chainBreakOn, overloadedOn}
-use Rattle.checker.specs.Answers.{judged, overInRange, InRange}
+use Rattle.checker.specs.Answers.{judged, overInRange, InRange, firstOver}
 
 answer-broken : (o : Option ℕ) (L i : ℕ) → Broken i ≡ chainAnswer o L → o ≡ some i
 unfolding chainAnswer
@@ -71,10 +73,66 @@ module _ (f : Figures) (k : ℕ) (o : Order) (chain : Chain) (r : InRange f k) (
     over =
         t ∙ rw (listed, whole .1, le-leb (f .divisor k) 120000 (r .divisor), le-leb _ 120000 small, le-leb _ 64 short)
 
-    pub judge-over : b ≡ true → Over ≡ judged (chainBreakOn f k) (overloadedOn f k)
+    pub judge-whole : Chained b ≡ judged (chainBreakOn f k) (overloadedOn f k)
     unfolding judged
-    judge-over x = rw (whole .0, ← over, x)
+    judge-whole = rw (whole .0, ← over)
 
-    pub judge-fitting : b ≡ false → Fitting ≡ judged (chainBreakOn f k) (overloadedOn f k)
-    unfolding judged
-    judge-fitting x = rw (whole .0, ← over, x)
+judged-broken : (o : Option ℕ) (b : Bool) (i : ℕ) → Unchained i ≡ judged o b → o ≡ some i
+unfolding judged
+judged-broken none b i e = absurd (let z : _≡_ {A = ℕ} 0 1 = cc in omega arith)
+judged-broken (some j) b i e = cc
+
+judged-whole : (o : Option ℕ) (b x : Bool) → Chained x ≡ judged o b → (o ≡ none) × (x ≡ b)
+unfolding judged
+judged-whole none b x e = (refl, cc)
+judged-whole (some j) b x e = absurd (let z : _≡_ {A = ℕ} 0 1 = cc in omega arith)
+
+-- the loop over the cores: no chain is broken below k, and the first that is over there is kept
+unfoldable pub overOr : ℕ → Option ℕ → Option ℕ
+overOr found o = cond (eqb found 255) o (some found)
+
+pub record Passed (f : Figures) (c k found : ℕ) : Type 0 where
+  pub chains : findSome (chainBreakOn f) (numbers 0 c) ≡ findSome (chainBreakOn f) (numbers k (c - k))
+  pub loads : find (overloadedOn f) (numbers 0 c) ≡ overOr found (find (overloadedOn f) (numbers k (c - k)))
+
+pub fit-start : (f : Figures) (c : ℕ) → Passed f c 0 255
+unfolding overOr
+fit-start f c = record { chains = rw (sub-zero c); loads = rw (sub-zero c) }
+
+module _ (f : Figures) (c k found : ℕ) (r : Judged) (h : k < c) (small : c < 256) (p : Passed f c k found) (e : r ≡ judged (chainBreakOn f k) (overloadedOn f k)) where
+  pub fit-broken : (i : ℕ) → r ≡ Unchained i → some i ≡ findSome (chainBreakOn f) (numbers 0 c)
+  unfolding findSome
+  fit-broken i q = sym (p .chains ∙ rw (front c k h, judged-broken _ _ i (sym q ∙ e)))
+
+  pub fit-turn : (found′ : ℕ) (b : Bool) → r ≡ Chained b → found′ ≡ firstOver found k b → Passed f c (k + 1) found′
+  unfolding findSome overOr firstOver find
+  fit-turn found′ b q t =
+      let w : (chainBreakOn f k ≡ none) × (b ≡ overloadedOn f k) = judged-whole _ _ b (sym q ∙ e) in
+      record { chains = p .chains ∙ rw (front c k h, w .0); loads = p .loads ∙ loaded b (ℕ-discrete found 255) (w .1) t }
+    where
+      rest : Option ℕ
+      rest = find (overloadedOn f) (numbers (k + 1) (c - (k + 1)))
+
+      loaded : (b : Bool) → Dec (found ≡ 255) → b ≡ overloadedOn f k → found′ ≡ firstOver found k b → overOr found (find (overloadedOn f) (numbers k (c - k))) ≡ overOr found′ rest
+      loaded true (yes z) w t = rw (front c k h, ← w, t, z, ne-eqb k 255 (omega arith))
+      loaded true (no z) w t = rw (t, ne-eqb found 255 z, ne-eqb found 255 z)
+      loaded false (yes z) w t = rw (front c k h, ← w, t, z)
+      loaded false (no z) w t = rw (t, ne-eqb found 255 z)
+
+none-left : (c k : ℕ) → c ≤ k → numbers k (c - k) ≡ []
+unfolding numbers
+none-left c k h =
+    let e : c - k ≡ 0 = omega arith in
+    rw e
+
+pub fit-end : (f : Figures) (c k found : ℕ) → c ≤ k → Passed f c k found → none ≡ findSome (chainBreakOn f) (numbers 0 c)
+unfolding findSome
+fit-end f c k found h p = sym (p .chains ∙ rw (none-left c k h))
+
+pub fit-clear : (f : Figures) (c k found : ℕ) → c ≤ k → Passed f c k found → found ≡ 255 → none ≡ find (overloadedOn f) (numbers 0 c)
+unfolding find overOr
+fit-clear f c k found h p e = sym (p .loads ∙ rw (none-left c k h, e))
+
+pub fit-over : (f : Figures) (c k found : ℕ) → c ≤ k → Passed f c k found → (found ≡ 255 → ⊥) → some found ≡ find (overloadedOn f) (numbers 0 c)
+unfolding find overOr
+fit-over f c k found h p e = sym (p .loads ∙ rw (ne-eqb found 255 e))

@@ -1,3 +1,4 @@
 pub mod Spares
 pub mod Bare
 pub mod Judging
+pub mod Clear

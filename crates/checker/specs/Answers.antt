@@ -1,7 +1,7 @@
 -- What the code's own steps answer.
 use Prim.Native.Nat.{ℕ, _*_, _≤_, _<_}
 use mathlib.Core.List.{List}
-use lib.Dec.{ltb}
+use lib.Dec.{ltb, eqb}
 use Rattle.fit.specs.Answers.{loadInRange}
 use mathlib.Core.Bool.{Bool, cond}
 use mathlib.Core.Option.{Option, none, some}
@@ -10,7 +10,7 @@ use Rattle.sheet.specs.Records.{Figures}
 use Rattle.checker.specs.declared.Test.{Test}
 use Rattle.checker.specs.declared.Test.the-variants.{Period, Budget, Core, Bare, Factor, Pivot, Stretch}
 use Rattle.checker.specs.declared.Judged.{Judged}
-use Rattle.checker.specs.declared.Judged.the-variants.{Fitting, Over, Unchained}
+use Rattle.checker.specs.declared.Judged.the-variants.{Chained, Unchained}
 use Rattle.checker.specs.Tests.{badCore, bare, badFactor, badPivot, stretchedAt}
 
 -- the rule that a test stands for
@@ -23,10 +23,14 @@ broken Factor f = badFactor (f .factor)
 broken Pivot f = badPivot (f .pivot) (f .divisor)
 broken Stretch f = stretchedAt f
 
--- a core whose chain is broken, which is over, or which fits
+-- a core whose chain is broken at a task, or is whole and over or not
 unfoldable pub judged : Option ℕ → Bool → Judged
-judged none over = cond over Over Fitting
+judged none over = Chained over
 judged (some i) over = Unchained i
+
+-- the first core that is over, where 255 stands for none
+unfoldable pub firstOver : ℕ → ℕ → Bool → ℕ
+firstOver found k over = cond over (cond (eqb found 255) k found) found
 
 -- load above one, by the load that the code adds up
 unfoldable pub overInRange : (ℕ → ℕ) → (ℕ → ℕ) → ℕ → ℕ → ℕ → List ℕ → Bool

@@ -17,7 +17,7 @@ unfoldable pub offset : Option ℕ → Option ℕ
 offset o = Option·map (λ a. 8 + a) o
 
 -- Stub, Mark, Version, Count, Length
-abbrev pub frameRows : List ℕ → List Row
+unfoldable pub frameRows : List ℕ → List Row
 frameRows s =
     1 at whole (ltb (length s) 8)
     ∷ 2 at whole (not (isMarked s))
@@ -27,7 +27,7 @@ frameRows s =
     ∷ []
 
 -- Spare: byte 7 of the header, byte 5 of each task record, bytes 2 and 3 of each core record
-abbrev pub spareRows : ℕ → ℕ → List ℕ → List ℕ → List Row
+unfoldable pub spareRows : ℕ → ℕ → List ℕ → List ℕ → List Row
 spareRows n c s records =
     6 at find (isSet s) (7 ∷ [])
     ∷ 6 at offset (find (isSet records) (taskSpares 0 n))
@@ -35,7 +35,7 @@ spareRows n c s records =
     ∷ []
 
 -- Period, Budget, Core
-abbrev pub taskRows : Figures → List Row
+unfoldable pub taskRows : Figures → List Row
 taskRows f =
     7 at find (badPeriod (f .period)) (numbers 0 (f .tasks))
     ∷ 8 at find (badBudget (f .period) (f .budget)) (numbers 0 (f .tasks))
@@ -43,7 +43,7 @@ taskRows f =
     ∷ []
 
 -- Bare, Factor at tasks and then at cores, Stretch
-abbrev pub coreRows : Figures → List Row
+unfoldable pub coreRows : Figures → List Row
 coreRows f =
     10 at core (find (bare (f .tasks) (f .core)) (numbers 0 (f .cores)))
     ∷ 11 at find (badFactor (f .factor)) (numbers 0 (f .tasks))
@@ -52,15 +52,15 @@ coreRows f =
     ∷ []
 
 -- Chain by core and inside a core by priority, Overload
-abbrev pub fitRows : Figures → List Row
+unfoldable pub fitRows : Figures → List Row
 fitRows f = 13 at findSome (chainBreakOn f) (numbers 0 (f .cores)) ∷ 14 at core (find (overloadedOn f) (numbers 0 (f .cores))) ∷ []
 
 -- the rules for n tasks and c cores whose records are the part from byte 8
-abbrev pub recordRows : Figures → List Row
+unfoldable pub recordRows : Figures → List Row
 recordRows f = taskRows f ++ (coreRows f ++ fitRows f)
 
 -- the whole table
-abbrev pub rules : List ℕ → List Row
+unfoldable pub rules : List ℕ → List Row
 rules s =
     frameRows s
     ++ (spareRows (taskCount s) (coreCount s) s (drop 8 s) ++ recordRows (figuresIn (taskCount s) (coreCount s) (drop 8 s)))

@@ -6,6 +6,7 @@ use mathlib.Core.Option.{Option, none, some}
 use mathlib.Core.List.{List, [], _∷_, _++_}
 use lib.ListN.{getD}
 use lib.Dec.{leb, ltb, eqb}
+use Rattle.sheet.specs.Ranges.{outOf}
 use Rattle.sheet.specs.Records.{Figures}
 use Rattle.fit.specs.Lists.{numbers, find}
 use Rattle.fit.specs.Priority.{order}
@@ -45,10 +46,10 @@ bare n core k = isNone (find (isOn core k) (numbers 0 n))
 
 -- "M, Q or D out of range": M and D are 1 to 120,000, Q is 1 to 60,000
 unfoldable pub badFactor : (ℕ → ℕ) → ℕ → Bool
-badFactor M i = eqb (M i) 0 || ltb 120000 (M i)
+badFactor M i = outOf 120000 (M i)
 
 unfoldable pub badPivot : (ℕ → ℕ) → (ℕ → ℕ) → ℕ → Bool
-badPivot Q D k = eqb (Q k) 0 || ltb 60000 (Q k) || (eqb (D k) 0 || ltb 120000 (D k))
+badPivot Q D k = outOf 60000 (Q k) || outOf 120000 (D k)
 
 -- "acceleration broken", with Q and D of the task's core
 unfoldable pub stretchedAt : Figures → ℕ → Bool

@@ -11,9 +11,9 @@ ghost use Rattle.sheet.specs.Numbers.{word};
 ghost use Rattle.sheet.specs.Records.{taskCount, coreCount, periodAt, budgetAt, coreAt, factorAt, pivotAt, divisorAt, figuresOf, figuresIn};
 ghost use Rattle.fit.specs.Lists.{numbers, find, findSome};
 ghost use Rattle.checker.specs.Tests.{isMarked, taskSpares, coreSpares, isSet, badCore, isOn, bare, badFactor, badPivot, stretchedAt, chainBreakOn, overloadedOn};
-ghost use Rattle.checker.specs.Rules.{frameRows, spareRows, taskRows, coreRows, fitRows, recordRows, offset};
+ghost use Rattle.checker.specs.Rules.{frameRows, spareRows, taskRows, coreRows, fitRows, recordRows, rules, offset};
 ghost use Rattle.checker.specs.Verdict.{verdict, outcome, outcomeOf};
-ghost use Rattle.checker.specs.Answers.{broken, judged, overInRange, InRange};
+ghost use Rattle.checker.specs.Answers.{broken, judged, overInRange, InRange, firstOver};
 
 use fit::Chain;
 use sheet::Finding;
@@ -39,8 +39,7 @@ enum Test {
 
 // What a core is by rules 13 and 14.
 enum Judged {
-    Fitting,
-    Over,
+    Chained { over: bool },
     Unchained(u8),
 }
 
@@ -308,12 +307,94 @@ fn judge(tasks: &[u8], cores: &[u8], n: u8, c: u8, k: u8) -> Judged
     let chain = fit::chain_of(tasks, &list[..count]);
     match chain {
         Chain::Broken(i) => Judged::Unchained(i),
-        Chain::Whole(last) => {
-            if is_over(tasks, cores, &list[..count], k, last) {
-                Judged::Over
-            } else {
-                Judged::Fitting
+        Chain::Whole(last) => Judged::Chained {
+            over: is_over(tasks, cores, &list[..count], k, last),
+        },
+    }
+}
+
+// The first core that is over; 255 stands for none.
+fn first_over(found: u8, k: u8, over: bool) -> u8
+    ensures { λ r. ⌜ r ≡ firstOver found k over ⌝ }
+{
+    if over {
+        if found == 255 {
+            return k;
+        }
+    }
+    found
+}
+
+// Rules 13 and 14. A broken chain of any core comes before every overload.
+fn fit_rules(tasks: &[u8], cores: &[u8], n: u8, c: u8) -> Finding
+    requires { ⌜ ((k : ℕ) → k < c → InRange (figuresOf n c (now tasks) (now cores)) k) ⌝ }
+    ensures { λ r. ⌜ findingOf r ≡ scan (fitRows (figuresOf n c (now (tasks .entry)) (now (cores .entry)))) ⌝ }
+{
+    let mut found = 255;
+    let mut k = 0;
+    while k < c {
+        let judged = judge(tasks, cores, n, c, k);
+        match judged {
+            Judged::Unchained(i) => {
+                return Finding::Broken(Refusal::Chain, i as u16);
+            }
+            Judged::Chained { over } => {
+                found = first_over(found, k, over);
+                k += 1;
             }
         }
+    }
+    if found == 255 {
+        return Finding::Clear;
+    }
+    Finding::Broken(Refusal::Overload, 64 + (found as u16))
+}
+
+// Rules 7 to 14.
+fn record_rules(tasks: &[u8], cores: &[u8], n: u8, c: u8) -> Finding
+    requires { ⌜ n ≤ 64 ⌝ }
+    ensures { λ r. ⌜ findingOf r ≡ scan (recordRows (figuresOf n c (now (tasks .entry)) (now (cores .entry)))) ⌝ }
+{
+    let found = task_rules(tasks, cores, n, c);
+    if let Finding::Broken(_, _) = found {
+        return found;
+    }
+    let found = core_rules(tasks, cores, n, c);
+    if let Finding::Broken(_, _) = found {
+        return found;
+    }
+    fit_rules(tasks, cores, n, c)
+}
+
+// Rules 1 to 14.
+fn all_rules(sheet: &[u8]) -> Finding
+    ensures { λ r. ⌜ findingOf r ≡ scan (rules (now (sheet .entry))) ⌝ }
+{
+    let found = framing(sheet);
+    if let Finding::Broken(_, _) = found {
+        return found;
+    }
+    let n = sheet::byte(sheet, 5);
+    let c = sheet::byte(sheet, 6);
+    let records = &sheet[8..];
+    let found = spare_rules(sheet, records, n, c);
+    if let Finding::Broken(_, _) = found {
+        return found;
+    }
+    let at = 10 * (n as usize);
+    record_rules(records, &records[at..], n, c)
+}
+
+// Checks a sheet: any bytes get the answer of document 01.
+pub fn check(sheet: &[u8]) -> Verdict
+    ensures { λ r. ⌜ outcomeOf r ≡ verdict (now (sheet .entry)) ⌝ }
+{
+    let found = all_rules(sheet);
+    match found {
+        Finding::Broken(word, place) => Verdict::Refused { word, place },
+        Finding::Clear => Verdict::Accepted {
+            tasks: sheet::byte(sheet, 5),
+            cores: sheet::byte(sheet, 6),
+        },
     }
 }

@@ -15,10 +15,15 @@ unfoldable pub find : (ℕ → Bool) → List ℕ → Option ℕ
 find q [] = none
 find q (i ∷ l) = cond (q i) (some i) (find q l)
 
+-- an answer, or another where there is none
+abbrev pub orElse : Option ℕ → Option ℕ → Option ℕ
+orElse none o = o
+orElse (some x) o = some x
+
 -- what the first of a list that has an answer answers
 unfoldable pub findSome : (ℕ → Option ℕ) → List ℕ → Option ℕ
 findSome f [] = none
-findSome f (i ∷ l) = elim (f i) [ none ↦ findSome f l | some x ↦ some x ]
+findSome f (i ∷ l) = orElse (f i) (findSome f l)
 
 -- the sum of a figure over a list
 unfoldable pub sum : (ℕ → ℕ) → List ℕ → ℕ

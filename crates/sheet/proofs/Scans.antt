@@ -74,3 +74,25 @@ row-hit f row rows w p e h = part-hit f (row ∷ []) rows w p e h
 
 pub row-skip : (f : Finding) (row : Row) (rows : List Row) (x : Option Refused) → findingOf f ≡ scan (row ∷ []) → f ≡ Clear → x ≡ scan rows → x ≡ scan (row ∷ rows)
 row-skip f row rows x e c h = part-skip f (row ∷ []) rows x e c h
+
+-- a table in which nothing is broken, row by row
+pub scan-clear : (k : ℕ) (o : Option ℕ) (rows : List Row) → none ≡ scan (k at o ∷ rows) → (o ≡ none) × (none ≡ scan rows)
+unfolding scan
+scan-clear k none rows e = (refl, e)
+scan-clear k (some x) rows e = absurd (Option·none-ne-some _ e)
+
+pub scan-clears : (a b : List Row) → none ≡ scan (a ++ b) → (none ≡ scan a) × (none ≡ scan b)
+unfolding scan
+scan-clears [] b e = (refl, e)
+scan-clears ((k at none) ∷ a) b e = scan-clears a b e
+scan-clears ((k at some x) ∷ a) b e = absurd (Option·none-ne-some _ e)
+
+pub whole-clear : (b : Bool) → whole b ≡ none → b ≡ false
+unfolding whole
+whole-clear true e = absurd (Option·some-ne-none 0 e)
+whole-clear false e = refl
+
+pub core-clear : (o : Option ℕ) → core o ≡ none → o ≡ none
+unfolding core
+core-clear none e = refl
+core-clear (some k) e = absurd (Option·some-ne-none _ e)

@@ -3,10 +3,14 @@ use Prim.Native.Nat.{ℕ}
 use mathlib.Core.Bool.{Bool, _||_}
 use lib.Dec.{ltb, eqb}
 
+-- a number is not in the range 1 to m
+unfoldable pub outOf : ℕ → ℕ → Bool
+outOf m x = eqb x 0 || ltb m x
+
 -- "p is 1 to 60,000"
 unfoldable pub badPeriod : (ℕ → ℕ) → ℕ → Bool
-badPeriod p i = eqb (p i) 0 || ltb 60000 (p i)
+badPeriod p i = outOf 60000 (p i)
 
--- "e is 0 or above p"
+-- "e is 1 to p"
 unfoldable pub badBudget : (ℕ → ℕ) → (ℕ → ℕ) → ℕ → Bool
-badBudget p e i = eqb (e i) 0 || ltb (p i) (e i)
+badBudget p e i = outOf (p i) (e i)

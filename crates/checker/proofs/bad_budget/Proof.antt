@@ -1,5 +1,5 @@
 use borrow.Author.Needs.{needs}
-use Rattle.sheet.specs.Ranges.{badBudget}
+use Rattle.sheet.specs.Ranges.{outOf, badBudget}
 use Rattle.checker.proofs.bad_budget.Statement.{statement}
 use Rattle.checker.proofs.bad_budget.Tie as tie
 use Rattle.checker.proofs.bad_budget.Reads as reads
@@ -17,7 +17,7 @@ budget-requires c κs = search needs
 
 -- src/lib.rt:61:1
 returns : tie.Need-returns
-unfolding badBudget
+unfolding badBudget outOf
 returns c = cc
 
 pub bad-budget-spec : {M : Type 1} → statement M

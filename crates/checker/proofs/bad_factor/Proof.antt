@@ -1,4 +1,5 @@
 use borrow.Author.Needs.{needs}
+use Rattle.sheet.specs.Ranges.{outOf}
 use Rattle.checker.specs.Tests.{badFactor}
 use Rattle.checker.proofs.bad_factor.Statement.{statement}
 use Rattle.checker.proofs.bad_factor.Tie as tie
@@ -12,7 +13,7 @@ factor-requires c κs = search needs
 
 -- src/lib.rt:88:1
 returns : tie.Need-returns
-unfolding badFactor
+unfolding badFactor outOf
 returns c = cc
 
 pub bad-factor-spec : {M : Type 1} → statement M

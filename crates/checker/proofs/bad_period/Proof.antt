@@ -1,5 +1,5 @@
 use borrow.Author.Needs.{needs}
-use Rattle.sheet.specs.Ranges.{badPeriod}
+use Rattle.sheet.specs.Ranges.{outOf, badPeriod}
 use Rattle.checker.proofs.bad_period.Statement.{statement}
 use Rattle.checker.proofs.bad_period.Tie as tie
 use Rattle.checker.proofs.bad_period.Reads as reads
@@ -12,7 +12,7 @@ period-requires c κs = search needs
 
 -- src/lib.rt:54:1
 returns : tie.Need-returns
-unfolding badPeriod
+unfolding badPeriod outOf
 returns c = cc
 
 pub bad-period-spec : {M : Type 1} → statement M

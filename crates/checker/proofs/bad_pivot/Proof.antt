@@ -1,4 +1,5 @@
 use borrow.Author.Needs.{needs}
+use Rattle.sheet.specs.Ranges.{outOf}
 use Rattle.checker.specs.Tests.{badPivot}
 use Rattle.checker.proofs.bad_pivot.Statement.{statement}
 use Rattle.checker.proofs.bad_pivot.Tie as tie
@@ -17,7 +18,7 @@ divisor-requires c κs = search needs
 
 -- src/lib.rt:95:1
 returns : tie.Need-returns
-unfolding badPivot
+unfolding badPivot outOf
 returns c = cc
 
 pub bad-pivot-spec : {M : Type 1} → statement M

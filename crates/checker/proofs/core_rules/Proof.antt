@@ -1,4 +1,5 @@
 use borrow.Author.Needs.{needs}
+use Rattle.checker.specs.Rules.{coreRows}
 use Rattle.sheet.proofs.Scans.{scan-skip, scan-hit, scan-none, found-at, found-none, core-at, core-none}
 use Rattle.checker.proofs.core_rules.Statement.{statement}
 use Rattle.checker.proofs.core_rules.Tie as tie
@@ -24,6 +25,7 @@ add-t16 c = search needs
 
 -- src/lib.rt:282:9
 returns : tie.Need-returns
+unfolding coreRows
 returns c = search (scan-skip, scan-hit, scan-none, found-at, found-none, core-at, core-none) depth 9
 
 enum-told : tie.Need-enum-told
@@ -43,6 +45,7 @@ cast-t18 c = search needs
 
 -- src/lib.rt:286:9
 returns-2 : tie.Need-returns-2
+unfolding coreRows
 returns-2 c = search (scan-skip, scan-hit, scan-none, found-at, found-none, core-at, core-none) depth 9
 
 enum-told-2 : tie.Need-enum-told-2
@@ -66,6 +69,7 @@ add-t21 c = search needs
 
 -- src/lib.rt:290:9
 returns-3 : tie.Need-returns-3
+unfolding coreRows
 returns-3 c = search (scan-skip, scan-hit, scan-none, found-at, found-none, core-at, core-none) depth 9
 
 enum-told-3 : tie.Need-enum-told-3
@@ -85,6 +89,7 @@ cast-t23 c = search needs
 
 -- src/lib.rt:294:9
 returns-4 : tie.Need-returns-4
+unfolding coreRows
 returns-4 c = search (scan-skip, scan-hit, scan-none, found-at, found-none, core-at, core-none) depth 9
 
 enum-told-4 : tie.Need-enum-told-4
@@ -92,6 +97,7 @@ enum-told-4 c = search needs
 
 -- src/lib.rt:277:1
 returns-5 : tie.Need-returns-5
+unfolding coreRows
 returns-5 c = search (scan-skip, scan-hit, scan-none, found-at, found-none, core-at, core-none) depth 9
 
 pub core-rules-spec : {M : Type 1} → statement M

@@ -1,4 +1,5 @@
 use borrow.Author.Needs.{needs}
+use Rattle.checker.specs.Rules.{frameRows}
 use Rattle.sheet.proofs.Scans.{scan-skip, scan-hit, scan-none, whole-true, whole-false}
 use Rattle.checker.proofs.framing.Statement.{statement}
 use Rattle.checker.proofs.framing.Tie as tie
@@ -16,6 +17,7 @@ is-stub-requires c κs = search needs
 
 -- src/lib.rt:192:9
 returns : tie.Need-returns
+unfolding frameRows
 returns c = search (scan-skip, scan-hit, scan-none, whole-true, whole-false) depth 8
 
 -- src/lib.rt:194:8
@@ -24,6 +26,7 @@ is-unmarked-requires c κs = search needs
 
 -- src/lib.rt:195:9
 returns-2 : tie.Need-returns-2
+unfolding frameRows
 returns-2 c = search (scan-skip, scan-hit, scan-none, whole-true, whole-false) depth 8
 
 -- src/lib.rt:197:8
@@ -32,6 +35,7 @@ is-other-version-requires c κs = search needs
 
 -- src/lib.rt:198:9
 returns-3 : tie.Need-returns-3
+unfolding frameRows
 returns-3 c = search (scan-skip, scan-hit, scan-none, whole-true, whole-false) depth 8
 
 -- src/lib.rt:200:8
@@ -40,6 +44,7 @@ is-over-count-requires c κs = search needs
 
 -- src/lib.rt:201:9
 returns-4 : tie.Need-returns-4
+unfolding frameRows
 returns-4 c = search (scan-skip, scan-hit, scan-none, whole-true, whole-false) depth 8
 
 -- src/lib.rt:203:8
@@ -48,10 +53,12 @@ is-other-length-requires c κs = search needs
 
 -- src/lib.rt:204:9
 returns-5 : tie.Need-returns-5
+unfolding frameRows
 returns-5 c = search (scan-skip, scan-hit, scan-none, whole-true, whole-false) depth 8
 
 -- src/lib.rt:188:1
 returns-6 : tie.Need-returns-6
+unfolding frameRows
 returns-6 c = search (scan-skip, scan-hit, scan-none, whole-true, whole-false) depth 8
 
 pub framing-spec : {M : Type 1} → statement M

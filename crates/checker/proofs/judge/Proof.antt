@@ -1,5 +1,5 @@
 use borrow.Author.Needs.{needs}
-use Rattle.checker.proofs.Judging.{ordered-length, judge-broken, judge-over, judge-fitting}
+use Rattle.checker.proofs.Judging.{ordered-length, judge-broken, judge-whole}
 use Rattle.checker.proofs.judge.Statement.{statement}
 use Rattle.checker.proofs.judge.Tie as tie
 use Rattle.checker.proofs.judge.Reads as reads
@@ -8,53 +8,49 @@ use Rattle.checker.proofs.is_over.Reads as is-over-reads
 use Rattle.fit.proofs.chain_of.Reads as chain-of-reads
 use Rattle.fit.proofs.in_order.Reads as in-order-reads
 
--- src/lib.rt:312:9
+-- src/lib.rt:304:9
 in-order-requires : tie.Need-in-order-requires
 in-order-requires c κs = search needs
 
--- src/lib.rt:315:38
+-- src/lib.rt:307:38
 array-share-prefix-list : tie.Need-array-share-prefix-list
 array-share-prefix-list c = search needs
 
--- src/lib.rt:315:38
+-- src/lib.rt:307:38
 slice-aggregate-chain-of : tie.Need-slice-aggregate-chain-of
 slice-aggregate-chain-of c = search ordered-length
 
--- src/lib.rt:315:9
+-- src/lib.rt:307:9
 chain-of-requires : tie.Need-chain-of-requires
 chain-of-requires c κs = search needs
 
--- src/lib.rt:317:23
+-- src/lib.rt:309:23
 enum-known-chain : tie.Need-enum-known-chain
 enum-known-chain c = search needs
 
--- src/lib.rt:318:22
+-- src/lib.rt:310:22
 enum-known-chain-2 : tie.Need-enum-known-chain-2
 enum-known-chain-2 c = search needs
 
--- src/lib.rt:319:38
+-- src/lib.rt:311:41
 array-share-prefix-list-2 : tie.Need-array-share-prefix-list-2
 array-share-prefix-list-2 c = search needs
 
--- src/lib.rt:319:38
+-- src/lib.rt:311:41
 slice-aggregate-is-over : tie.Need-slice-aggregate-is-over
 slice-aggregate-is-over c = search ordered-length
 
--- src/lib.rt:319:16
+-- src/lib.rt:311:19
 is-over-requires : tie.Need-is-over-requires
 is-over-requires c κs = search needs
 
--- src/lib.rt:308:1
+-- src/lib.rt:300:1
 returns : tie.Need-returns
 returns c = search judge-broken
 
--- src/lib.rt:308:1
+-- src/lib.rt:300:1
 returns-2 : tie.Need-returns-2
-returns-2 c = search judge-over
-
--- src/lib.rt:308:1
-returns-3 : tie.Need-returns-3
-returns-3 c = search judge-fitting
+returns-2 c = search judge-whole
 
 pub judge-spec : {M : Type 1} → statement M
 judge-spec =
@@ -70,5 +66,4 @@ judge-spec =
     slice-aggregate-is-over
     is-over-requires
     returns
-    returns-2
-    returns-3)
+    returns-2)

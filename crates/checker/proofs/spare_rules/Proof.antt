@@ -1,4 +1,5 @@
 use borrow.Author.Needs.{needs}
+use Rattle.checker.specs.Rules.{spareRows}
 use Rattle.sheet.proofs.Scans.{scan-skip, scan-hit, row-hit, row-skip}
 use Rattle.checker.proofs.Spares.{header-hit, header-clear}
 use Rattle.checker.proofs.spare_rules.Statement.{statement}
@@ -15,6 +16,7 @@ byte-requires c κs = search needs
 
 -- src/lib.rt:248:9
 returns : tie.Need-returns
+unfolding spareRows
 returns c = search (scan-hit, header-hit)
 
 -- src/lib.rt:250:9
@@ -27,6 +29,7 @@ enum-told c = search needs
 
 -- src/lib.rt:252:9
 returns-2 : tie.Need-returns-2
+unfolding spareRows
 returns-2 c = search (scan-skip, header-clear, row-hit)
 
 enum-told-2 : tie.Need-enum-told-2
@@ -38,6 +41,7 @@ core-spares-requires c κs = search needs
 
 -- src/lib.rt:244:1
 returns-3 : tie.Need-returns-3
+unfolding spareRows
 returns-3 c = search (scan-skip, header-clear, row-skip)
 
 pub spare-rules-spec : {M : Type 1} → statement M

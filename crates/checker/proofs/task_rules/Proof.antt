@@ -1,4 +1,5 @@
 use borrow.Author.Needs.{needs}
+use Rattle.checker.specs.Rules.{taskRows}
 use Rattle.sheet.proofs.Scans.{scan-skip, scan-hit, scan-none, found-at, found-none}
 use Rattle.checker.proofs.task_rules.Statement.{statement}
 use Rattle.checker.proofs.task_rules.Tie as tie
@@ -20,6 +21,7 @@ cast-t13 c = search needs
 
 -- src/lib.rt:263:9
 returns : tie.Need-returns
+unfolding taskRows
 returns c = search (scan-skip, scan-hit, scan-none, found-at, found-none) depth 8
 
 enum-told : tie.Need-enum-told
@@ -39,6 +41,7 @@ cast-t15 c = search needs
 
 -- src/lib.rt:267:9
 returns-2 : tie.Need-returns-2
+unfolding taskRows
 returns-2 c = search (scan-skip, scan-hit, scan-none, found-at, found-none) depth 8
 
 enum-told-2 : tie.Need-enum-told-2
@@ -58,6 +61,7 @@ cast-t17 c = search needs
 
 -- src/lib.rt:271:9
 returns-3 : tie.Need-returns-3
+unfolding taskRows
 returns-3 c = search (scan-skip, scan-hit, scan-none, found-at, found-none) depth 8
 
 enum-told-3 : tie.Need-enum-told-3
@@ -65,6 +69,7 @@ enum-told-3 c = search needs
 
 -- src/lib.rt:258:1
 returns-4 : tie.Need-returns-4
+unfolding taskRows
 returns-4 c = search (scan-skip, scan-hit, scan-none, found-at, found-none) depth 8
 
 pub task-rules-spec : {M : Type 1} → statement M

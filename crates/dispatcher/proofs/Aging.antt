@@ -1,0 +1,65 @@
+-- The pass in which every task becomes one tick older, step by step as the code goes.
+-- Assumes nothing.
+use Prim.Native.Nat.{ℕ, suc, _+_, _≤_, _<_, min, zero}
+use mathlib.Core.Path.{_≡_, refl, ap, _∙_}
+use mathlib.Core.List.{List, [], _∷_, _++_, map}
+use native.Mathlib.Numerals.{add-one}
+use native.Mathlib.Omega.{arith}
+use lib.ListN.{length, getD, take, drop, set, length-set}
+use Rattle.timing.specs.declared.Task.{Task}
+use Rattle.timing.specs.Tasks.{withJob, older}
+use Rattle.timing.specs.Serving.{noTask}
+use Rattle.dispatcher.specs.declared.Core.{Core}
+use Rattle.dispatcher.specs.State.{tasksOf, withTasks}
+
+-- one task older: by one below its period, else at its period
+pub aged-more : (t r : Task) → t .age < t .period → r ≡ withJob t (t .age + 1) (t .left) → r ≡ older t
+unfolding older
+aged-more t r h e =
+    let m : min (t .age + 1) (t .period) ≡ t .age + 1 = omega arith in
+    rw (e, m)
+
+pub aged-most : (t r : Task) → t .period ≤ t .age → r ≡ withJob t (t .period) (t .left) → r ≡ older t
+unfolding older
+aged-most t r h e =
+    let m : min (t .age + 1) (t .period) ≡ t .period = omega arith in
+    rw (e, m)
+
+-- a state is its fields
+pub state-is : (s : Core) (n : ℕ) (l : List Task) → s .count ≡ n → s .tasks ≡ l → s ≡ record { count = n; tasks = l }
+state-is s n l e f = λ i. record { count = e i; tasks = f i }
+
+-- the first i tasks of a state are one tick older, and the rest as it was
+pub record Aged (old : Core) (i : ℕ) (new : Core) : Type 0 where
+  pub count : new .count ≡ old .count
+  pub size : length (new .tasks) ≡ 64
+  pub front : new .tasks ≡ map older (take i (old .tasks)) ++ drop i (old .tasks)
+
+pub aging-start : (s : Core) → length (s .tasks) ≡ 64 → Aged s 0 s
+aging-start s h = record { count = refl; size = h; front = refl }
+
+-- one place more of a list is changed
+map-more : (f : Task → Task) (l : List Task) (i : ℕ) → i < length l → set (map f (take i l) ++ drop i l) i (f (getD l i noTask)) ≡ map f (take (suc i) l) ++ drop (suc i) l
+map-more f [] i h = absurd (omega arith)
+map-more f (t ∷ l) zero h = refl
+map-more f (t ∷ l) (suc i) h = ap (λ x. f t ∷ x) (map-more f l i (omega arith))
+
+map-at : (f : Task → Task) (l : List Task) (i : ℕ) → getD (map f (take i l) ++ drop i l) i noTask ≡ getD l i noTask
+map-at f [] zero = refl
+map-at f [] (suc i) = refl
+map-at f (t ∷ l) zero = refl
+map-at f (t ∷ l) (suc i) = map-at f l i
+
+pub aging-turn : (old new : Core) (i : ℕ) (r : Task) → length (old .tasks) ≡ 64 → old .count ≤ 64 → i < old .count → Aged old i new → r ≡ older (getD (new .tasks) i noTask) → Aged old (i + 1) (record { count = new .count; tasks = set (new .tasks) i r })
+aging-turn old new i r l m h a e = record {
+    count = a .count;
+    size = length-set (new .tasks) i r ∙ a .size;
+    front =
+      rw (e, a .front, map-at older (old .tasks) i, add-one i) (map-more older (old .tasks) i (omega arith))
+  }
+
+pub aging-end : (old new : Core) (i : ℕ) → i ≤ old .count → old .count ≤ i → Aged old i new → new ≡ withTasks old (map older (tasksOf old))
+unfolding withTasks
+aging-end old new i h k a =
+    let e : i ≡ old .count = omega arith in
+    state-is new (old .count) _ (a .count) (rw e at (a .front))

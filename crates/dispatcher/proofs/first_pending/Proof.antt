@@ -1,0 +1,62 @@
+use borrow.Author.Needs.{needs}
+use Prim.Native.Nat.{_≤_, _-_}
+use Rattle.timing.specs.Tasks.{pending}
+use Rattle.dispatcher.specs.State.{tasksOf}
+use Rattle.dispatcher.proofs.Places.{Searched, place-start, place-turn, place-hit, place-end, is-pending, not-pending, array-length}
+use Rattle.dispatcher.proofs.first_pending.Statement.{statement}
+use Rattle.dispatcher.proofs.first_pending.Tie as tie
+use Rattle.dispatcher.proofs.first_pending.Reads as reads
+use Rattle.dispatcher.proofs.first_pending.Lts as lts
+
+abbrev Inv-loop : tie.InvT-loop
+Inv-loop core count i₀ i = (i ≤ count) × Searched pending i (tasksOf core)
+
+abbrev μ-loop : tie.MeasureT-loop
+μ-loop core count i₀ i = count - i
+
+-- src/lib.rt:91:5
+loop-holds : tie.Need-loop-holds Inv-loop μ-loop
+loop-holds c = search (place-start, needs)
+
+-- src/lib.rt:92:17
+mul-t : tie.Need-mul-t Inv-loop μ-loop
+mul-t c = search needs
+
+-- src/lib.rt:92:17
+element-copy-out-t : tie.Need-element-copy-out-t Inv-loop μ-loop
+element-copy-out-t c = search needs
+
+-- src/lib.rt:94:13
+returns : tie.Need-returns Inv-loop μ-loop
+returns c = search (place-hit, is-pending, array-length, needs)
+
+-- src/lib.rt:96:9
+add-i : tie.Need-add-i Inv-loop μ-loop
+add-i c = search needs
+
+-- src/lib.rt:91:5
+loop-less : tie.Need-loop-less Inv-loop μ-loop
+loop-less c = search needs
+
+-- src/lib.rt:91:5
+loop-again : tie.Need-loop-again Inv-loop μ-loop
+loop-again c = (search needs, search (place-turn, not-pending, array-length, needs))
+
+-- src/lib.rt:85:1
+returns-2 : tie.Need-returns-2 Inv-loop μ-loop
+returns-2 c = search (place-end, needs)
+
+pub first-pending-spec : {M : Type 1} → statement M
+first-pending-spec =
+    tie.close
+    (tie.spec
+    Inv-loop
+    μ-loop
+    loop-holds
+    mul-t
+    element-copy-out-t
+    returns
+    add-i
+    loop-less
+    loop-again
+    returns-2)

@@ -1,0 +1,14 @@
+-- What the code's own steps give.
+use Prim.Native.Nat.{ℕ, suc, _+_, _*_}
+use mathlib.Core.Bool.{Bool, cond}
+use mathlib.Core.List.{List, [], _∷_}
+use Rattle.timing.specs.declared.Task.{Task}
+
+-- a number that rises with the priority order of sound tasks
+abbrev pub rank : Task → ℕ
+rank t = t .period * 64 + t .number
+
+-- the place of the first task that passes a test, or the number of tasks
+unfoldable pub placeOf : (Task → Bool) → List Task → ℕ
+placeOf q [] = 0
+placeOf q (t ∷ s) = cond (q t) 0 (suc (placeOf q s))

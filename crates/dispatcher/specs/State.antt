@@ -1,0 +1,51 @@
+-- Document 01, "The dispatcher": the state of a core and its own form, whose breach is 21 Foreign.
+use Prim.Native.Nat.{_≤_}
+use mathlib.Core.Bool.{Bool, true, not, _&&_, _||_}
+use mathlib.Core.List.{List, [], _∷_, _++_}
+use lib.ListN.{take, drop}
+use lib.Dec.{ltb, leb, eqb}
+use Rattle.timing.specs.declared.Task.{Task}
+use Rattle.timing.specs.Form.{Form}
+use Rattle.dispatcher.specs.declared.Core.{Core}
+
+-- the tasks of a state: its first `count` places, in priority order
+abbrev pub tasksOf : Core → List Task
+tasksOf s = take (s .count) (s .tasks)
+
+-- the state with other tasks; what stands past them stays as it was
+unfoldable pub withTasks : Core → List Task → Core
+withTasks s l = record { count = s .count; tasks = l ++ drop (s .count) (s .tasks) }
+
+-- The form of a state: at most 64 tasks, and these in the form of timing's `Form`: numbers at most 63 and none twice, p and e in range,
+-- age at most p, ticks left at most e, in priority order.
+pub record InForm (s : Core) : Type 0 where
+  pub count : s .count ≤ 64
+  pub form : Form (tasksOf s)
+
+-- The same as a test, in the words of document 01. A task's own fields:
+abbrev pub sound : Task → Bool
+sound t =
+    leb (t .number) 63 && (leb 1 (t .period) && (leb (t .period) 60000 && (leb 1 (t .budget) && (leb (t .budget) (t .period) && (leb (t .age) (t .period) && leb (t .left) (t .budget))))))
+
+-- two tasks have different numbers
+unfoldable pub distinct : Task → Task → Bool
+distinct t u = not (eqb (t .number) (u .number))
+
+-- priority: shorter period first, lower number among equals
+unfoldable pub above : Task → Task → Bool
+above t u = ltb (t .period) (u .period) || eqb (t .period) (u .period) && ltb (t .number) (u .number)
+
+-- every task passes
+unfoldable pub each : (Task → Bool) → List Task → Bool
+each q [] = true
+each q (t ∷ s) = q t && each q s
+
+-- every task passes with every task after it
+unfoldable pub eachPair : (Task → Task → Bool) → List Task → Bool
+eachPair q [] = true
+eachPair q (t ∷ s) = each (q t) s && eachPair q s
+
+-- 21 Foreign: "more than 64 tasks, numbers repeated or above 63, p or e out of range, age above p, ticks left above e, or tasks not in
+-- priority order"
+unfoldable pub foreign : Core → Bool
+foreign s = ltb 64 (s .count) || not (each sound (tasksOf s) && (eachPair distinct (tasksOf s) && eachPair above (tasksOf s)))

@@ -1,0 +1,279 @@
+// The dispatcher of one core: its state, and release, finish and tick on it.
+ghost use mathlib.Core.Path.{_≡_};
+ghost use Prim.Native.Nat.{_+_, _*_, _≤_};
+ghost use mathlib.Core.List.{map};
+ghost use Rattle.timing.specs.Tasks.{pending, named, withJob, older};
+ghost use Rattle.timing.specs.Calls.{release, finish, tick};
+ghost use Rattle.dispatcher.specs.State.{tasksOf, withTasks, sound, foreign};
+ghost use Rattle.dispatcher.specs.Operations.{Operation};
+ghost use Rattle.dispatcher.specs.Answers.{rank, placeOf};
+
+use sheet::Refusal;
+use timing::Task;
+
+// The state of a core: its tasks are the first `count` places, in priority order.
+#[repr(C)]
+pub struct Core {
+    pub count: usize,
+    pub tasks: [Task; 64],
+}
+
+// What an operation answers: a release or a finish is accepted, a tick goes to a task's number or is idle, a call is refused.
+pub enum Answer {
+    Accepted,
+    Served(u8),
+    Idle,
+    Refused { word: Refusal, place: u16 },
+}
+
+// An operation's answer and the state that it hands back.
+pub struct Step {
+    pub answer: Answer,
+    pub core: Core,
+}
+
+// Whether a task's own fields are in range.
+fn is_sound(t: Task) -> bool
+    ensures { λ r. ⌜ r ≡ sound t ⌝ }
+{
+    (t.number <= 63)
+        & ((1 <= t.period)
+            & ((t.period <= 60_000)
+                & ((1 <= t.budget)
+                    & ((t.budget <= t.period) & ((t.age <= t.period) & (t.left <= t.budget))))))
+}
+
+// A number that rises with the priority order of sound tasks.
+fn rank_of(t: Task) -> u32
+    ensures { λ r. ⌜ r ≡ rank t ⌝ }
+{
+    (t.period as u32) * 64 + (t.number as u32)
+}
+
+// Whether a state breaks its own form (21), in one pass: each task is sound, ranks above the one before, and has a new number.
+fn is_foreign(core: Core) -> bool
+    ensures { λ r. ⌜ r ≡ foreign core ⌝ }
+{
+    let count = core.count;
+    if 64 < count {
+        return true;
+    }
+    let mut seen = [false; 64];
+    let mut last = 0;
+    let mut i = 0;
+    while i < count {
+        let t = core.tasks[i];
+        if !is_sound(t) {
+            return true;
+        }
+        let here = rank_of(t);
+        if here <= last {
+            return true;
+        }
+        let k = t.number as usize;
+        if seen[k] {
+            return true;
+        }
+        seen[k] = true;
+        last = here;
+        i += 1;
+    }
+    false
+}
+
+// The place of the first pending task, or the number of tasks.
+fn first_pending(core: Core) -> usize
+    requires { ⌜ core .count ≤ 64 ⌝ }
+    ensures { λ r. ⌜ r ≡ placeOf pending (tasksOf core) ⌝ }
+{
+    let count = core.count;
+    let mut i = 0;
+    while i < count {
+        let t = core.tasks[i];
+        if 0 < t.left {
+            return i;
+        }
+        i += 1;
+    }
+    i
+}
+
+// The place of the task with this number, or the number of tasks.
+fn first_named(core: Core, number: u64) -> usize
+    requires { ⌜ core .count ≤ 64 ⌝ }
+    ensures { λ r. ⌜ r ≡ placeOf (named number) (tasksOf core) ⌝ }
+{
+    let count = core.count;
+    let mut i = 0;
+    while i < count {
+        let t = core.tasks[i];
+        if t.number as u64 == number {
+            return i;
+        }
+        i += 1;
+    }
+    i
+}
+
+// The task with another age and other ticks left.
+fn with_job(t: Task, age: u16, left: u16) -> Task
+    ensures { λ r. ⌜ r ≡ withJob t age left ⌝ }
+{
+    Task {
+        period: t.period,
+        budget: t.budget,
+        age,
+        left,
+        number: t.number,
+    }
+}
+
+// The task one tick older, up to its period.
+fn aged(t: Task) -> Task
+    ensures { λ r. ⌜ r ≡ older t ⌝ }
+{
+    if t.age < t.period {
+        with_job(t, t.age + 1, t.left)
+    } else {
+        with_job(t, t.period, t.left)
+    }
+}
+
+// The state with every task one tick older.
+fn all_aged(core: Core) -> Core
+    requires { ⌜ core .count ≤ 64 ⌝ }
+    ensures { λ r. ⌜ r ≡ withTasks core (map older (tasksOf core)) ⌝ }
+{
+    let count = core.count;
+    let mut next = core;
+    let mut i = 0;
+    while i < count {
+        let t = next.tasks[i];
+        let later = aged(t);
+        next.tasks[i] = later;
+        i += 1;
+    }
+    next
+}
+
+impl Core {
+    // A job of the task begins: 17, 18, 19, else age 0 and ticks left e.
+    pub fn release(self, number: u64) -> Step
+        ensures { λ r. ⌜ Operation (release number) self r ⌝ }
+    {
+        if is_foreign(self) {
+            return Step {
+                answer: Answer::Refused {
+                    word: Refusal::Foreign,
+                    place: 0,
+                },
+                core: self,
+            };
+        }
+        let at = first_named(self, number);
+        if self.count <= at {
+            return Step {
+                answer: Answer::Refused {
+                    word: Refusal::Unlisted,
+                    place: 0,
+                },
+                core: self,
+            };
+        }
+        let t = self.tasks[at];
+        if t.age < t.period {
+            return Step {
+                answer: Answer::Refused {
+                    word: Refusal::Early,
+                    place: t.number as u16,
+                },
+                core: self,
+            };
+        }
+        if 0 < t.left {
+            return Step {
+                answer: Answer::Refused {
+                    word: Refusal::Late,
+                    place: t.number as u16,
+                },
+                core: self,
+            };
+        }
+        let mut next = self;
+        next.tasks[at] = with_job(t, 0, t.budget);
+        Step {
+            answer: Answer::Accepted,
+            core: next,
+        }
+    }
+
+    // The task's job ends: 17, 20, else ticks left 0.
+    pub fn finish(self, number: u64) -> Step
+        ensures { λ r. ⌜ Operation (finish number) self r ⌝ }
+    {
+        if is_foreign(self) {
+            return Step {
+                answer: Answer::Refused {
+                    word: Refusal::Foreign,
+                    place: 0,
+                },
+                core: self,
+            };
+        }
+        let at = first_named(self, number);
+        if self.count <= at {
+            return Step {
+                answer: Answer::Refused {
+                    word: Refusal::Unlisted,
+                    place: 0,
+                },
+                core: self,
+            };
+        }
+        let t = self.tasks[at];
+        if t.left == 0 {
+            return Step {
+                answer: Answer::Refused {
+                    word: Refusal::Quiet,
+                    place: t.number as u16,
+                },
+                core: self,
+            };
+        }
+        let mut next = self;
+        next.tasks[at] = with_job(t, t.age, 0);
+        Step {
+            answer: Answer::Accepted,
+            core: next,
+        }
+    }
+
+    // The first pending task loses one tick of its job, and every age rises by one.
+    pub fn tick(self) -> Step
+        ensures { λ r. ⌜ Operation tick self r ⌝ }
+    {
+        if is_foreign(self) {
+            return Step {
+                answer: Answer::Refused {
+                    word: Refusal::Foreign,
+                    place: 0,
+                },
+                core: self,
+            };
+        }
+        let at = first_pending(self);
+        if self.count <= at {
+            return Step {
+                answer: Answer::Idle,
+                core: all_aged(self),
+            };
+        }
+        let t = self.tasks[at];
+        let mut next = self;
+        next.tasks[at] = with_job(t, t.age, t.left - 1);
+        Step {
+            answer: Answer::Served(t.number),
+            core: all_aged(next),
+        }
+    }
+}

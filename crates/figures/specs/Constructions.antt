@@ -1,0 +1,70 @@
+-- Document 01, "The planner": Sr and DCT. A construction takes the periods of a core's tasks in priority order and the place of its pivot.
+use Prim.Native.Nat.{ℕ, zero, suc, _+_, _-_, _*_, _/_}
+use mathlib.Core.Bool.{Bool, cond}
+use mathlib.Core.List.{List, [], _∷_, _++_, map}
+use lib.ListN.{getD, take, drop}
+use lib.Dec.{leb}
+
+-- The figures of a core: the accelerated period of the task at place i is the fraction Q × M / D, where M is its factor.
+pub record Acceleration : Type 0 where
+  pub Q : ℕ
+  pub D : ℕ
+  pub factors : List ℕ
+
+-- what stands at a place of a list, and 0 past its end
+abbrev pub at : List ℕ → ℕ → ℕ
+at l i = getD l i 0
+
+-- m times the least power of b with q ≤ p × it, sought in n steps; the least power itself takes at most q steps
+unfoldable pub least : ℕ → ℕ → ℕ → ℕ → ℕ → ℕ
+least b q p zero m = m
+least b q p (suc n) m = let more = least b q p n (m * b) in cond (leb q (p * m)) m more
+
+unfoldable pub leastPower : ℕ → ℕ → ℕ → ℕ
+leastPower b q p = least b q p q 1
+
+-- m times the largest power of b with q × it ≤ x, sought in n steps; the largest power itself takes at most x steps
+unfoldable pub largest : ℕ → ℕ → ℕ → ℕ → ℕ → ℕ
+largest b q x zero m = m
+largest b q x (suc n) m = let more = largest b q x n (m * b) in cond (leb (q * (m * b)) x) more m
+
+unfoldable pub largestPower : ℕ → ℕ → ℕ → ℕ
+largestPower b q x = largest b q x x 1
+
+-- Sr on base b: "Q is the pivot's period. Each task has the largest power, whose exponent may be negative, with Q × power ≤ p as its multiplier."
+-- A multiplier is written M / D with one D for all: the least power with Q ≤ p × D at the first task, whose multiplier is 1 / D.
+unfoldable pub sr : ℕ → List ℕ → ℕ → Acceleration
+sr b ps i =
+    let q = at ps i in
+    let d = leastPower b q (at ps 0) in
+    record { Q = q; D = d; factors = map (λ p. largestPower b q (p * d)) ps }
+
+-- a / b rounded up
+unfoldable pub ceiling : ℕ → ℕ → ℕ
+ceiling a b = (a + b - 1) / b
+
+-- "Going down, it is the next one divided by ceil(next / p)": where the next accelerated period is Q / d, this one is Q / (d × c).
+unfoldable pub down : ℕ → ℕ → ℕ → ℕ
+down q p d = d * ceiling q (d * p)
+
+-- the d of the tasks before the pivot, and of the pivot, which is 1
+unfoldable pub downs : ℕ → List ℕ → List ℕ
+downs q [] = 1 ∷ []
+downs q (p ∷ ps) = let next = downs q ps in down q p (at next 0) ∷ next
+
+-- "going up in priority order from the pivot, each accelerated period is the previous one × floor(p / previous)": the previous one is Q × m.
+unfoldable pub up : ℕ → ℕ → ℕ → ℕ
+up q p m = m * (p / (q * m))
+
+-- the m of the tasks after one whose m is given
+unfoldable pub ups : ℕ → ℕ → List ℕ → List ℕ
+ups q m [] = []
+ups q m (p ∷ ps) = let next = up q p m in next ∷ ups q next ps
+
+-- DCT: "the first task by priority has factor 1; D is Q over its accelerated period", which is the first d.
+unfoldable pub dct : List ℕ → ℕ → Acceleration
+dct ps i =
+    let q = at ps i in
+    let ds = downs q (take i ps) in
+    let d = at ds 0 in
+    record { Q = q; D = d; factors = map (λ x. d / x) ds ++ map (λ m. d * m) (ups q 1 (drop (suc i) ps)) }

@@ -1,0 +1,3 @@
+pub mod Constructions
+pub mod Passing
+pub mod Answers

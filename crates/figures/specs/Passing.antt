@@ -1,0 +1,41 @@
+-- Document 01, "The planner": the load test, the order in which constructions are tried, and the first that passes.
+use Prim.Native.Nat.{ℕ}
+use mathlib.Core.Bool.{Bool, true, cond, not, _&&_}
+use mathlib.Core.Option.{Option, none, some}
+use mathlib.Core.List.{List, [], _∷_, _++_, map}
+use lib.ListN.{length}
+use lib.Dec.{leb, eqb}
+use Rattle.fit.specs.Lists.{numbers}
+use Rattle.fit.specs.Fits.{overloaded}
+use Rattle.figures.specs.Constructions.{Acceleration, at, sr, dct}
+
+-- "load at most one": the tasks with these budgets are named by their places in priority order.
+unfoldable pub passes : List ℕ → Acceleration → Bool
+passes es a = not (overloaded (at es) (at (a .factors)) (a .Q) (a .D) (numbers 0 (length es)))
+
+-- the first of a list of accelerations that passes
+unfoldable pub first : List ℕ → List Acceleration → Option Acceleration
+first es [] = none
+first es (a ∷ l) = let later = first es l in cond (passes es a) (some a) later
+
+-- a construction with each task as pivot by priority
+unfoldable pub eachPivot : (List ℕ → ℕ → Acceleration) → List ℕ → List Acceleration
+eachPivot construction ps = map (construction ps) (numbers 0 (length ps))
+
+-- "A set passes if one of these has load at most one, tried in this order: Sr with each task as pivot by priority, then DCT likewise.
+-- The first that passes gives the core's figures."
+unfoldable pub firstPassing : List ℕ → List ℕ → Option Acceleration
+firstPassing ps es = first es (eachPivot (sr 2) ps ++ eachPivot dct ps)
+
+-- periods in priority order: none below the one before it, which is a before the first, and none above 60,000
+unfoldable pub rising : ℕ → List ℕ → Bool
+rising a [] = true
+rising a (p ∷ ps) = leb a p && leb p 60000 && rising p ps
+
+-- at most 64 tasks, each with a period of 1 to 60,000 and a budget, in priority order
+unfoldable pub taskSet : List ℕ → List ℕ → Bool
+taskSet ps es = leb (length ps) 64 && eqb (length ps) (length es) && rising 1 ps
+
+-- the figures of a core with these tasks; anything but a set of tasks does not pass
+unfoldable pub figuresOf : List ℕ → List ℕ → Option Acceleration
+figuresOf ps es = cond (taskSet ps es) (firstPassing ps es) none

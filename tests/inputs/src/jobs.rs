@@ -1,0 +1,89 @@
+//! Random job lists.
+
+use crate::Rng;
+
+pub const JOB_DAMAGES: usize = 6;
+
+/// A list of `count` jobs in range. Some lists fit few cores, some many.
+pub fn job_list(rng: &mut Rng, count: usize) -> Vec<u8> {
+    let style = rng.below(6);
+    let base = rng.range(1, 40);
+    // the load of a job is near 1 / crowd
+    let crowd = rng.range(1, 2 * count as u64 + 1);
+    let plain_budgets = rng.once_in(4);
+    let mut list = Vec::new();
+    for _ in 0..count {
+        let period = period(rng, style, base);
+        let budget = if plain_budgets {
+            rng.range(1, period)
+        } else {
+            rng.range(1, (2 * period / crowd).clamp(1, period))
+        };
+        list.extend((period as u16).to_le_bytes());
+        list.extend((budget as u16).to_le_bytes());
+    }
+    list
+}
+
+fn period(rng: &mut Rng, style: u64, base: u64) -> u64 {
+    match style {
+        0 => rng.range(1, 12),
+        1 => rng.range(1, 100),
+        2 => rng.range(1, 60_000),
+        // near a power of two
+        3 => ((1 << rng.below(16)) + rng.below(3)).clamp(2, 60_000) - 1,
+        // near a multiple of the base
+        4 => base * (1 << rng.below(8)) * rng.pick(&[1, 1, 3]) + rng.below(2),
+        // of every size
+        _ => {
+            let bits = rng.range(1, 16);
+            rng.range(1, (1 << bits) - 1).min(60_000)
+        }
+    }
+}
+
+/// A list with one kind of damage, which may leave it in range.
+pub fn damaged_jobs(rng: &mut Rng, list: &[u8], kind: usize) -> Vec<u8> {
+    let mut list = list.to_vec();
+    let entries = list.len() / 4;
+    match kind {
+        0 => list.truncate(rng.index(list.len() + 1)),
+        1 => {
+            for _ in 0..rng.range(1, 300) {
+                list.push(rng.next() as u8);
+            }
+        }
+        2 if entries > 0 => {
+            let at = 4 * rng.index(entries);
+            let period = rng.pick(&[0, 1, 60_000, 60_001, 65_535, 256]);
+            put(&mut list, at, period);
+        }
+        3 if entries > 0 => {
+            let at = 4 * rng.index(entries);
+            let period = get(&list, at);
+            let budget = rng.pick(&[0, period, period.saturating_add(1), 65_535, 256]);
+            put(&mut list, at + 2, budget);
+        }
+        // two entries broken, so that their order tells
+        4 if entries > 0 => {
+            let at = 4 * rng.index(entries);
+            put(&mut list, at, 60_001);
+            let at = 4 * rng.index(entries);
+            put(&mut list, at + 2, 0);
+        }
+        _ if !list.is_empty() => {
+            let at = rng.index(list.len());
+            list[at] = rng.next() as u8;
+        }
+        _ => {}
+    }
+    list
+}
+
+fn get(list: &[u8], at: usize) -> u16 {
+    u16::from_le_bytes([list[at], list[at + 1]])
+}
+
+fn put(list: &mut [u8], at: usize, number: u16) {
+    list[at..at + 2].copy_from_slice(&number.to_le_bytes());
+}

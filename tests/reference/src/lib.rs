@@ -1,0 +1,53 @@
+//! Document 01 (timing sheets) as plain Rust. It is written from the document
+//! alone, for clarity and not for speed, and is total: any bytes, any numbers
+//! and any state have an answer. All arithmetic is exact.
+
+mod answers;
+mod checker;
+mod dispatcher;
+mod fraction;
+mod jobs;
+mod listing;
+mod planner;
+mod sheet;
+
+pub use answers::{CheckAnswer, Core, CoreAnswer, ListAnswer, PlanAnswer, Task, TickAnswer, IDLE};
+pub use checker::{accept, check};
+pub use dispatcher::{finish, release, start_list, start_sheet, tick};
+pub use fraction::Fraction;
+pub use jobs::Job;
+pub use listing::{list, list_into, LISTING_ROOM};
+pub use planner::{dct, plan, ring_order, sr};
+pub use sheet::{CoreRecord, Sheet, TaskRecord, LONGEST_SHEET};
+
+/// Document 01's ranges.
+pub const MOST_TASKS: usize = 64;
+pub const MOST_CORES: usize = 8;
+pub const LONGEST_PERIOD: u64 = 60_000;
+pub const LARGEST_FACTOR: u64 = 120_000;
+
+/// A refusal: document 01's number and the place.
+#[derive(Clone, Copy, Debug, PartialEq, Eq)]
+pub struct Refusal {
+    pub number: u8,
+    pub place: u16,
+}
+
+/// What is left to do, or a refusal.
+pub type Outcome<T> = Result<T, Refusal>;
+
+/// Refuse with `number` if `broken`; the place is 0.
+fn refuse_if(number: u8, broken: bool) -> Outcome<()> {
+    refuse_at(number, broken.then_some(0))
+}
+
+/// Refuse with `number` at the place where the rule is broken, if it is.
+fn refuse_at(number: u8, broken: Option<usize>) -> Outcome<()> {
+    match broken {
+        None => Ok(()),
+        Some(place) => Err(Refusal {
+            number,
+            place: place as u16,
+        }),
+    }
+}

@@ -1,0 +1,104 @@
+//! Tables 2 and 3 of source document 001.
+
+use reference::*;
+
+fn fractions(list: [(u128, u128); 3]) -> Vec<Fraction> {
+    list.iter().map(|&(a, b)| Fraction::new(a, b)).collect()
+}
+
+/// Table 2: the accelerated periods of (2,1), (11,2), (17,4) for each pivot.
+#[test]
+fn accelerated_periods() {
+    let periods = [2, 11, 17];
+    assert_eq!(sr(&periods, 0), fractions([(2, 1), (8, 1), (16, 1)]));
+    assert_eq!(sr(&periods, 1), fractions([(11, 8), (11, 1), (11, 1)]));
+    assert_eq!(sr(&periods, 2), fractions([(17, 16), (17, 2), (17, 1)]));
+    assert_eq!(dct(&periods, 0), fractions([(2, 1), (10, 1), (10, 1)]));
+    assert_eq!(dct(&periods, 1), fractions([(11, 6), (11, 1), (11, 1)]));
+    assert_eq!(dct(&periods, 2), fractions([(17, 10), (17, 2), (17, 1)]));
+}
+
+/// Table 3.
+const TASKS: [(u16, u16); 10] = [
+    (7, 2),
+    (21, 3),
+    (29, 9),
+    (49, 15),
+    (64, 20),
+    (66, 16),
+    (160, 32),
+    (235, 72),
+    (260, 25),
+    (450, 120),
+];
+
+/// The tasks in this set of bits, which are in priority order.
+fn group(set: u16) -> Vec<(u16, u16)> {
+    (0..10)
+        .filter(|i| set >> i & 1 == 1)
+        .map(|i| TASKS[i])
+        .collect()
+}
+
+/// Whether the planner puts the group on one core.
+fn planned(set: u16) -> bool {
+    let jobs: Vec<u8> = group(set)
+        .iter()
+        .flat_map(|(p, e)| [p.to_le_bytes(), e.to_le_bytes()].concat())
+        .collect();
+    plan(&jobs, 1, 0, &mut [0; 712]).refusal == 0
+}
+
+/// Whether some pivot of a construction brings the load to one or below: the
+/// sum of e * (last / period) is at most the last accelerated period.
+fn passes(construction: fn(&[u64], usize) -> Vec<Fraction>, set: u16) -> bool {
+    let periods: Vec<u64> = group(set).iter().map(|task| task.0 as u64).collect();
+    (0..periods.len()).any(|pivot| {
+        let accelerated = construction(&periods, pivot);
+        let last = accelerated[periods.len() - 1];
+        let demand = |(task, period): (&(u16, u16), &Fraction)| {
+            task.1 as u128 * last.ratio(*period).exact()
+        };
+        let demands = group(set).iter().zip(&accelerated).map(demand).sum();
+        Fraction::whole(demands) <= last
+    })
+}
+
+/// How many partitions into groups of these sizes there are, and how many of
+/// them pass group by group.
+fn count(mut sizes: [u32; 3], passes: &dyn Fn(u16) -> bool) -> (u32, u32) {
+    sizes.sort();
+    let passing: Vec<bool> = (0..1024).map(|set| set == 0 || passes(set)).collect();
+    let (mut all, mut passed) = (0, 0);
+    for a in 0..1024u16 {
+        for b in a + 1..1024 {
+            let c = 1023 ^ (a | b);
+            // each partition once: a < b < c
+            if a & b != 0 || c < b {
+                continue;
+            }
+            let groups = [a, b, c];
+            let mut found = groups.map(u16::count_ones);
+            found.sort();
+            if found == sizes {
+                all += 1;
+                passed += groups.iter().all(|&g| passing[g as usize]) as u32;
+            }
+        }
+    }
+    (all, passed)
+}
+
+/// The three partitions of Table 4 that pass, and how many there are.
+fn counts(passes: &dyn Fn(u16) -> bool) -> [(u32, u32); 3] {
+    [[4, 3, 3], [4, 4, 2], [5, 3, 2]].map(|sizes| count(sizes, passes))
+}
+
+#[test]
+fn partitions_of_ten_tasks() {
+    assert_eq!(counts(&planned), [(2100, 470), (1575, 12), (2520, 0)]);
+    let by_sr = |set| passes(sr, set);
+    assert_eq!(counts(&by_sr), [(2100, 268), (1575, 2), (2520, 0)]);
+    let by_dct = |set| passes(dct, set);
+    assert_eq!(counts(&by_dct), [(2100, 462), (1575, 11), (2520, 0)]);
+}
