@@ -1,58 +1,22 @@
--- What a table says in which nothing is broken, as far as the later rules and the code's parts of the sheet need it.
+-- The ways out of the rules, as the code takes them: a part of the table is broken, or is clear and the next one is looked at.
 -- Assumes nothing.
-use Prim.Native.Nat.{ℕ, _+_, _-_, _*_, _≤_, _<_, zero-le}
-use mathlib.Core.Path.{_≡_, refl, sym, ap, _∙_}
-use mathlib.Core.Bool.{Bool, true, false, not, _||_}
-use mathlib.Core.Option.{Option, none, some}
-use mathlib.Core.List.{List, [], _∷_, _++_}
+use Prim.Native.Nat.{ℕ, _-_, _*_, _≤_, _<_}
+use mathlib.Core.Path.{_≡_, sym, ap, _∙_}
+use mathlib.Core.List.{List, _++_}
 use native.Mathlib.Omega.{arith}
-use native.Mathlib.Nat.{zero-add}
-use borrow.Author.Tests.{ltb-false, eqb-true, eqb-false, not-false}
 use lib.ListN.{length, take, drop, length-drop}
 use lib.Seq.{take-all}
-use lib.Dec.{ltb, eqb}
 use Rattle.sheet.specs.declared.Refusal.{Refusal}
 use Rattle.sheet.specs.declared.Finding.{Finding}
 use Rattle.sheet.specs.declared.Finding.the-variants.{Clear, Broken}
-use Rattle.sheet.specs.Table.{Row, _at_, scan, findingOf}
+use Rattle.sheet.specs.Table.{scan, findingOf}
 use Rattle.sheet.specs.Records.{Figures, taskCount, coreCount, figuresOf}
 use Rattle.sheet.specs.Refusals.{numberOf}
-use Rattle.sheet.specs.Ranges.{outOf}
-use Rattle.sheet.proofs.Ranges.{neither, in-range as out-range}
-use Rattle.sheet.proofs.Scans.{scan-clear, scan-clears, whole-clear, core-clear, scan-first, scan-second, part-hit, part-skip}
-use Rattle.fit.proofs.Finds.{find-none}
-use Rattle.checker.specs.Tests.{badFactor, badPivot}
+use Rattle.sheet.proofs.Scans.{part-hit, part-skip}
 use Rattle.checker.specs.Rules.{frameRows, spareRows, taskRows, coreRows, fitRows, recordRows, rules}
 use Rattle.checker.specs.Verdict.{accepted, refused, outcome, verdict}
 use Rattle.checker.specs.Answers.{InRange}
-
--- rules 1 to 5 passed
-pub record Framed (s : List ℕ) : Type 0 where
-  pub tasks : taskCount s ≤ 64
-  pub cores : coreCount s ≤ 8
-  pub size : length s ≡ 8 + 10 * taskCount s + 8 * coreCount s
-
-pub framed : (s : List ℕ) → none ≡ scan (frameRows s) → Framed s
-unfolding frameRows
-framed s e =
-    let a = scan-clear 1 _ _ e in
-    let b = scan-clear 2 _ _ (a .1) in
-    let c = scan-clear 3 _ _ (b .1) in
-    let d = scan-clear 4 _ _ (c .1) in
-    let g = scan-clear 5 _ _ (d .1) in
-    let n = neither (ltb 64 (taskCount s)) (ltb 8 (coreCount s)) (whole-clear _ (d .0)) in
-    record { tasks = ltb-false _ _ (n .0); cores = ltb-false _ _ (n .1); size = eqb-true _ _ (not-false _ (whole-clear _ (g .0))) }
-
--- rules 10 and 11 passed
-pub in-range : (f : Figures) → f .tasks ≤ 64 → none ≡ scan (coreRows f) → (k : ℕ) → k < f .cores → InRange f k
-unfolding coreRows badFactor badPivot
-in-range f n e k h =
-    let a = scan-clear 10 _ _ e in
-    let b = scan-clear 11 _ _ (a .1) in
-    let c = scan-clear 11 _ _ (b .1) in
-    record { count = n
-           ; factors = λ i q. out-range 120000 _ (find-none (badFactor (f .factor)) 0 (f .tasks) (b .0) i zero-le (rw zero-add q)) .1
-           ; divisor = out-range 120000 _ (neither (outOf 60000 (f .pivot k)) (outOf 120000 (f .divisor k)) (find-none (badPivot (f .pivot) (f .divisor)) 0 (f .cores) (core-clear _ (c .0)) k zero-le (rw zero-add h)) .1) .1 }
+use Rattle.checker.proofs.Acceptance.{frame-kept, cores-kept}
 
 -- the ways out of rules 7 to 14
 module _ (f : Figures) (r : Finding) (w : Refusal) (p : ℕ) where
@@ -69,7 +33,9 @@ unfolding recordRows
 fits-found f r s t c q d z e = part-skip t (taskRows f) (coreRows f ++ fitRows f) _ c q (part-skip s (coreRows f) (fitRows f) _ d z e)
 
 pub clear-range : (f : Figures) (s : Finding) → f .tasks ≤ 64 → findingOf s ≡ scan (coreRows f) → s ≡ Clear → (k : ℕ) → k < f .cores → InRange f k
-clear-range f s n e q = in-range f n (sym (ap findingOf q) ∙ e)
+clear-range f s n e q k h =
+    let g = cores-kept f (sym (ap findingOf q) ∙ e) in
+    record { count = n; factors = λ i z. g .factor i z .1; divisor = g .divisor k h .1 }
 
 -- a part from a place on is what is left from there
 pub part : (s : List ℕ) (a : ℕ) → take (length s - a) (drop a s) ≡ drop a s
@@ -83,13 +49,13 @@ module _ (s : List ℕ) (r : Finding) (w : Refusal) (p : ℕ) where
 
 module _ (s : List ℕ) (t : Finding) (n c : ℕ) (frame : findingOf t ≡ scan (frameRows s)) (clear : t ≡ Clear) (en : n ≡ taskCount s) (ec : c ≡ coreCount s) where
   pub records-long : 8 ≤ length s
-  records-long = omega (arith, framed s (sym (ap findingOf clear) ∙ frame) .size)
+  records-long = omega (arith, frame-kept s (sym (ap findingOf clear) ∙ frame) .size)
 
   pub cores-long : 10 * n ≤ length (take (length s - 8) (drop 8 s))
-  cores-long = rw (part s 8, length-drop 8 s, en) (omega (arith, framed s (sym (ap findingOf clear) ∙ frame) .size))
+  cores-long = rw (part s 8, length-drop 8 s, en) (omega (arith, frame-kept s (sym (ap findingOf clear) ∙ frame) .size))
 
   pub tasks-few : n ≤ 64
-  tasks-few = rw en (framed s (sym (ap findingOf clear) ∙ frame) .tasks)
+  tasks-few = rw en (frame-kept s (sym (ap findingOf clear) ∙ frame) .tasks)
 
   module _ (r : Finding) (e : findingOf r ≡ scan (spareRows n c s (take (length s - 8) (drop 8 s)))) where
     spares : findingOf r ≡ scan (spareRows (taskCount s) (coreCount s) s (drop 8 s))

@@ -2,3 +2,4 @@ pub mod Spares
 pub mod Bare
 pub mod Judging
 pub mod Clear
+pub mod Acceptance

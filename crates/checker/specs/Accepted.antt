@@ -1,2 +1,65 @@
--- What acceptance means.
-use Prim.Native.Nat.{ℕ}
+-- Document 01, "The sheet" and "When a core fits": what it means that a sheet is accepted, in the document's words; and what a
+-- dispatcher may rely on for a core of an accepted sheet.
+use Prim.Native.Nat.{ℕ, _+_, _*_, _≤_, _<_}
+use mathlib.Core.Path.{_≡_}
+use mathlib.Core.List.{List, [], _∷_, _++_}
+use lib.ListN.{length, getD, drop}
+use Rattle.sheet.specs.Numbers.{word}
+use Rattle.sheet.specs.Records.{Figures, figures, taskCount, coreCount}
+use Rattle.fit.specs.Lists.{Each, EachPair}
+use Rattle.fit.specs.Priority.{Above}
+use Rattle.fit.specs.Fits.{Multiple, Multiples, lastFactor, load, within}
+use Rattle.checker.specs.Tests.{orderOn}
+
+-- Q × L, with L "the last factor in priority order", is at least the load of core k: "Load at most one"
+unfoldable pub LoadAtMostOne : Figures → ℕ → Type 0
+LoadAtMostOne f k =
+    load (f .budget) (f .factor) (f .divisor k) (lastFactor (f .factor) 1 (orderOn f k)) (orderOn f k)
+    ≤ f .pivot k * lastFactor (f .factor) 1 (orderOn f k)
+
+-- the figures are in range, every core has a task, and every core fits
+pub record Fitting (f : Figures) : Type 0 where
+  pub period : (i : ℕ) → i < f .tasks → (1 ≤ f .period i) × (f .period i ≤ 60000)
+  pub budget : (i : ℕ) → i < f .tasks → (1 ≤ f .budget i) × (f .budget i ≤ f .period i)
+  pub core : (i : ℕ) → i < f .tasks → f .core i < f .cores
+  pub not-bare : (k : ℕ) → k < f .cores → (i : ℕ) × (i < f .tasks) × (f .core i ≡ k)
+  pub factor : (i : ℕ) → i < f .tasks → (1 ≤ f .factor i) × (f .factor i ≤ 120000)
+  pub pivot : (k : ℕ) → k < f .cores → (1 ≤ f .pivot k) × (f .pivot k ≤ 60000)
+  pub divisor : (k : ℕ) → k < f .cores → (1 ≤ f .divisor k) × (f .divisor k ≤ 120000)
+  pub accelerated : (i : ℕ) → i < f .tasks → f .pivot (f .core i) * f .factor i ≤ f .period i * f .divisor (f .core i)
+  pub simply-periodic : (k : ℕ) → k < f .cores → Multiples (f .factor) 1 (orderOn f k)
+  pub load : (k : ℕ) → k < f .cores → LoadAtMostOne f k
+
+-- the sheet has its form and its figures fit
+pub record Acceptable (s : List ℕ) : Type 0 where
+  pub mark : (getD s 0 0 ≡ 0x54) × (getD s 1 0 ≡ 0x53) × (getD s 2 0 ≡ 0x48)
+  pub version : word s 3 ≡ 1
+  pub tasks : taskCount s ≤ 64
+  pub cores : coreCount s ≤ 8
+  pub size : length s ≡ 8 + 10 * taskCount s + 8 * coreCount s
+  pub spare-header : getD s 7 0 ≡ 0
+  pub spare-tasks : (i : ℕ) → i < taskCount s → getD (drop 8 s) (10 * i + 5) 0 ≡ 0
+  pub spare-cores : (k : ℕ) → k < coreCount s → (getD (drop 8 s) (10 * taskCount s + 8 * k + 2) 0 ≡ 0) × (getD (drop 8 s) (10 * taskCount s + 8 * k + 3) 0 ≡ 0)
+  pub fitting : Fitting (figures s)
+
+-- What a dispatcher may rely on for a core with pivot Q and divisor D whose tasks in priority order are l; p, e and M are by task
+-- number. The load is at most one at every level: of each task with those above it, at that task's own factor.
+pub record Schedulable (p e M : ℕ → ℕ) (Q D : ℕ) (l : List ℕ) : Type 0 where
+  pub count : length l ≤ 64
+  pub number : Each (λ i. i < 64) l
+  pub order : EachPair (Above p) l
+  pub period : Each (λ i. (1 ≤ p i) × (p i ≤ 60000)) l
+  pub budget : Each (λ i. (1 ≤ e i) × (e i ≤ p i)) l
+  pub factor : Each (λ i. 1 ≤ M i) l
+  pub divisor : 1 ≤ D
+  pub accelerated : Each (λ i. Q * M i ≤ p i * D) l
+  pub multiples : EachPair (λ i j. Multiple (M i) (M j)) l
+  pub level : (xs : List ℕ) (i : ℕ) (ys : List ℕ) → l ≡ xs ++ i ∷ ys → load e M D (M i) (xs ++ i ∷ []) ≤ Q * M i
+  pub bounds : Each (λ i. (e i ≤ within Q D (M i)) × (within Q D (M i) ≤ p i)) l
+
+-- the same for core k of a sheet, with the sheet's size, as the dispatcher is given it
+pub record CoreOf (s : List ℕ) (k : ℕ) : Type 0 where
+  pub tasks : taskCount s ≤ 64
+  pub size : length s ≡ 8 + 10 * taskCount s + 8 * coreCount s
+  pub core : k < coreCount s
+  pub schedulable : Schedulable (figures s .period) (figures s .budget) (figures s .factor) (figures s .pivot k) (figures s .divisor k) (orderOn (figures s) k)

@@ -1,2 +1,5 @@
 pub mod Places
 pub mod Aging
+pub mod Foreign
+pub mod Pass
+pub mod Outcomes

@@ -6,7 +6,7 @@ ghost use Rattle.timing.specs.Tasks.{pending, named, withJob, older};
 ghost use Rattle.timing.specs.Calls.{release, finish, tick};
 ghost use Rattle.dispatcher.specs.State.{tasksOf, withTasks, sound, foreign};
 ghost use Rattle.dispatcher.specs.Operations.{Operation};
-ghost use Rattle.dispatcher.specs.Answers.{rank, placeOf};
+ghost use Rattle.dispatcher.specs.Answers.{rank, placeOf, refusal};
 
 use sheet::Refusal;
 use timing::Task;
@@ -156,48 +156,33 @@ fn all_aged(core: Core) -> Core
     next
 }
 
+fn refuse(core: Core, word: Refusal, place: u16) -> Step
+    ensures { λ r. ⌜ r ≡ refusal core word place ⌝ }
+{
+    Step {
+        answer: Answer::Refused { word, place },
+        core,
+    }
+}
+
 impl Core {
     // A job of the task begins: 17, 18, 19, else age 0 and ticks left e.
     pub fn release(self, number: u64) -> Step
         ensures { λ r. ⌜ Operation (release number) self r ⌝ }
     {
         if is_foreign(self) {
-            return Step {
-                answer: Answer::Refused {
-                    word: Refusal::Foreign,
-                    place: 0,
-                },
-                core: self,
-            };
+            return refuse(self, Refusal::Foreign, 0);
         }
         let at = first_named(self, number);
         if self.count <= at {
-            return Step {
-                answer: Answer::Refused {
-                    word: Refusal::Unlisted,
-                    place: 0,
-                },
-                core: self,
-            };
+            return refuse(self, Refusal::Unlisted, 0);
         }
         let t = self.tasks[at];
         if t.age < t.period {
-            return Step {
-                answer: Answer::Refused {
-                    word: Refusal::Early,
-                    place: t.number as u16,
-                },
-                core: self,
-            };
+            return refuse(self, Refusal::Early, t.number as u16);
         }
         if 0 < t.left {
-            return Step {
-                answer: Answer::Refused {
-                    word: Refusal::Late,
-                    place: t.number as u16,
-                },
-                core: self,
-            };
+            return refuse(self, Refusal::Late, t.number as u16);
         }
         let mut next = self;
         next.tasks[at] = with_job(t, 0, t.budget);
@@ -212,33 +197,15 @@ impl Core {
         ensures { λ r. ⌜ Operation (finish number) self r ⌝ }
     {
         if is_foreign(self) {
-            return Step {
-                answer: Answer::Refused {
-                    word: Refusal::Foreign,
-                    place: 0,
-                },
-                core: self,
-            };
+            return refuse(self, Refusal::Foreign, 0);
         }
         let at = first_named(self, number);
         if self.count <= at {
-            return Step {
-                answer: Answer::Refused {
-                    word: Refusal::Unlisted,
-                    place: 0,
-                },
-                core: self,
-            };
+            return refuse(self, Refusal::Unlisted, 0);
         }
         let t = self.tasks[at];
         if t.left == 0 {
-            return Step {
-                answer: Answer::Refused {
-                    word: Refusal::Quiet,
-                    place: t.number as u16,
-                },
-                core: self,
-            };
+            return refuse(self, Refusal::Quiet, t.number as u16);
         }
         let mut next = self;
         next.tasks[at] = with_job(t, t.age, 0);
@@ -253,13 +220,7 @@ impl Core {
         ensures { λ r. ⌜ Operation tick self r ⌝ }
     {
         if is_foreign(self) {
-            return Step {
-                answer: Answer::Refused {
-                    word: Refusal::Foreign,
-                    place: 0,
-                },
-                core: self,
-            };
+            return refuse(self, Refusal::Foreign, 0);
         }
         let at = first_pending(self);
         if self.count <= at {

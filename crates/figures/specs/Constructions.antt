@@ -1,5 +1,6 @@
 -- Document 01, "The planner": Sr and DCT. A construction takes the periods of a core's tasks in priority order and the place of its pivot.
-use Prim.Native.Nat.{ℕ, zero, suc, _+_, _-_, _*_, _/_}
+use Prim.Native.Nat.{ℕ, zero, suc, _+_, _-_, _*_, _/_, _^_}
+use mathlib.Core.Path.{_≡_}
 use mathlib.Core.Bool.{Bool, cond}
 use mathlib.Core.List.{List, [], _∷_, _++_, map}
 use lib.ListN.{getD, take, drop}
@@ -15,19 +16,25 @@ pub record Acceleration : Type 0 where
 abbrev pub at : List ℕ → ℕ → ℕ
 at l i = getD l i 0
 
--- m times the least power of b with q ≤ p × it, sought in n steps; the least power itself takes at most q steps
+-- m is a power of b
+unfoldable pub Power : ℕ → ℕ → Type 0
+Power b m = (k : ℕ) × (m ≡ b ^ k)
+
+-- the first of m, m × b, m × b × b .. with q ≤ p × it, or the last that n steps reach
 unfoldable pub least : ℕ → ℕ → ℕ → ℕ → ℕ → ℕ
 least b q p zero m = m
 least b q p (suc n) m = let more = least b q p n (m * b) in cond (leb q (p * m)) m more
 
+-- the least power of b with q ≤ p × it, which q steps reach
 unfoldable pub leastPower : ℕ → ℕ → ℕ → ℕ
 leastPower b q p = least b q p q 1
 
--- m times the largest power of b with q × it ≤ x, sought in n steps; the largest power itself takes at most x steps
+-- the last of m, m × b, m × b × b .. before the first with q × it above x, or the last that n steps reach
 unfoldable pub largest : ℕ → ℕ → ℕ → ℕ → ℕ → ℕ
 largest b q x zero m = m
 largest b q x (suc n) m = let more = largest b q x n (m * b) in cond (leb (q * (m * b)) x) more m
 
+-- the largest power of b with q × it ≤ x, which x steps reach
 unfoldable pub largestPower : ℕ → ℕ → ℕ → ℕ
 largestPower b q x = largest b q x x 1
 

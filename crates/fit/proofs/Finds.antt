@@ -3,7 +3,7 @@
 use Prim.Native.Nat.{ℕ, zero, suc, _+_, _-_, _≤_, _<_}
 use mathlib.Core.Path.{_≡_, refl, sym, _∙_}
 use mathlib.Core.Bool.{Bool, true, false}
-use mathlib.Core.Option.{Option, none, some, Option·some-ne-none}
+use mathlib.Core.Option.{Option, none, some, Option·some-ne-none, Option·none-ne-some, Option·some-injective}
 use mathlib.Core.List.{_∷_}
 use native.Mathlib.Nat.{sub-zero}
 use native.Mathlib.Decide.{ℕ-discrete}
@@ -72,3 +72,17 @@ pub none-findSome : (g : ℕ → Option ℕ) (a n : ℕ) → ((i : ℕ) → a �
 unfolding findSome numbers
 none-findSome g a zero h = refl
 none-findSome g a (suc n) h = rw (h a (omega arith) (omega arith)) (none-findSome g (suc a) n (λ i b c. h i (omega arith) (omega arith)))
+
+-- what is found passes the test
+pub find-some : (q : ℕ → Bool) (a n i : ℕ) → find q (numbers a n) ≡ some i → (i < a + n) × (q i ≡ true)
+unfolding find numbers
+find-some q a zero i e = absurd (Option·none-ne-some i e)
+find-some q a (suc n) i e = by (q a) refl (find-some q (suc a) n i)
+  where
+    by : (b : Bool) → q a ≡ b → (find q (numbers (suc a) n) ≡ some i → (i < suc a + n) × (q i ≡ true)) → (i < a + suc n) × (q i ≡ true)
+    by true t rec =
+        let z : a ≡ i = Option·some-injective a i (rw t at e) in
+        (omega arith, rw (← z) t)
+    by false t rec =
+        let w = rec (rw t at e) in
+        (omega (arith, w .0), w .1)

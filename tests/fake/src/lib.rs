@@ -1,0 +1,171 @@
+//! The C interface over the reference itself. With the feature `wrong` it
+//! makes one deliberate mistake, which the harness must notice.
+
+use reference::*;
+use std::slice::{from_raw_parts, from_raw_parts_mut};
+
+/// Whether the mistake with this number is to be made.
+#[cfg(feature = "wrong")]
+fn wrong(mistake: u32) -> bool {
+    use std::sync::OnceLock;
+    static CHOSEN: OnceLock<u32> = OnceLock::new();
+    let read = || std::env::var("FAKE_WRONG").ok()?.parse().ok();
+    *CHOSEN.get_or_init(|| read().unwrap_or(1)) == mistake
+}
+
+#[cfg(not(feature = "wrong"))]
+fn wrong(_mistake: u32) -> bool {
+    false
+}
+
+/// # Safety
+/// `sheet` has `len` bytes; so in all calls below.
+#[no_mangle]
+pub unsafe extern "C" fn homvaits_check(sheet: *const u8, len: usize) -> CheckAnswer {
+    let mut answer = check(from_raw_parts(sheet, len));
+    // 1: overload overlooked. 2: the place of Bare without the 64.
+    if wrong(1) && answer.refusal == 14 {
+        answer = CheckAnswer::default();
+    }
+    if wrong(2) && answer.refusal == 10 {
+        answer.place -= 64;
+    }
+    answer
+}
+
+/// # Safety
+/// See `homvaits_check`.
+#[no_mangle]
+pub unsafe extern "C" fn homvaits_plan(
+    jobs: *const u8,
+    len: usize,
+    limit: u64,
+    start: u64,
+    out: *mut u8,
+    out_len: usize,
+) -> PlanAnswer {
+    let (jobs, out) = (from_raw_parts(jobs, len), from_raw_parts_mut(out, out_len));
+    // 3: a limit cut to a byte. 4: bytes past the sheet cleared. 5: bytes
+    // written before a refusal. 6: No fit for each list.
+    let limit = if wrong(3) { limit as u8 as u64 } else { limit };
+    let answer = plan(jobs, limit, start, out);
+    if wrong(4) && answer.refusal == 0 {
+        out[answer.length as usize..].fill(0);
+    }
+    if wrong(5) && answer.refusal == 15 {
+        out[0] = b'T';
+    }
+    if wrong(6) && answer.refusal == 0 {
+        return PlanAnswer {
+            refusal: 15,
+            ..PlanAnswer::default()
+        };
+    }
+    answer
+}
+
+/// # Safety
+/// See `homvaits_check`.
+#[no_mangle]
+pub unsafe extern "C" fn homvaits_start(sheet: *const u8, len: usize, core: u64) -> CoreAnswer {
+    // 7: a core number cut to a byte. 8: a start that does nothing.
+    let core = if wrong(7) { core as u8 as u64 } else { core };
+    let mut answer = start_sheet(from_raw_parts(sheet, len), core);
+    if wrong(8) {
+        answer.core = Core::EMPTY;
+    }
+    answer
+}
+
+/// # Safety
+/// See `homvaits_check`.
+#[no_mangle]
+pub unsafe extern "C" fn homvaits_start_list(jobs: *const u8, len: usize) -> CoreAnswer {
+    let mut answer = start_list(from_raw_parts(jobs, len));
+    // 9: a place past the tasks not zero
+    if wrong(9) && answer.core.count < 64 {
+        answer.core.tasks[63].number = 63;
+    }
+    answer
+}
+
+#[no_mangle]
+pub extern "C" fn homvaits_release(core: Core, number: u64) -> CoreAnswer {
+    let mut answer = release(core, number);
+    // 10: every release Early. 11: no ticks left to the job.
+    if wrong(10) && answer.refusal == 0 {
+        let place = number as u16;
+        return CoreAnswer {
+            refusal: 18,
+            place,
+            core,
+        };
+    }
+    if wrong(11) && answer.refusal == 0 {
+        let count = answer.core.count as usize;
+        let tasks = answer.core.tasks[..count].iter_mut();
+        tasks
+            .filter(|task| task.number as u64 == number)
+            .for_each(|task| task.left = 0);
+    }
+    answer
+}
+
+#[no_mangle]
+pub extern "C" fn homvaits_finish(core: Core, number: u64) -> CoreAnswer {
+    let mut answer = finish(core, number);
+    // 12: the age counted from the end of the job
+    if wrong(12) && answer.refusal == 0 {
+        let count = answer.core.count as usize;
+        let tasks = answer.core.tasks[..count].iter_mut();
+        tasks
+            .filter(|task| task.number as u64 == number)
+            .for_each(|task| task.age = 0);
+    }
+    answer
+}
+
+#[no_mangle]
+pub extern "C" fn homvaits_tick(core: Core) -> TickAnswer {
+    let mut answer = tick(core);
+    // 13: only the first task is served. 14: ages stand on idle ticks. 15: the
+    // places past the tasks cleared.
+    if wrong(13) && answer.refusal == 0 && core.count > 0 && core.tasks[0].left == 0 {
+        answer.task = IDLE;
+    }
+    if wrong(14) && answer.task == IDLE {
+        answer.core = core;
+    }
+    if wrong(15) && answer.refusal == 0 {
+        answer.core.tasks[core.count as usize..].fill(Task::default());
+    }
+    answer
+}
+
+/// # Safety
+/// See `homvaits_check`; `out` has `out_len` bytes.
+#[no_mangle]
+pub unsafe extern "C" fn homvaits_list(
+    sheet: *const u8,
+    len: usize,
+    out: *mut u8,
+    out_len: usize,
+) -> ListAnswer {
+    let (sheet, out) = (from_raw_parts(sheet, len), from_raw_parts_mut(out, out_len));
+    let mut answer = list_into(sheet, out);
+    // 16: the last line feed left out. 17: Tight by the text's length only.
+    if wrong(16) && answer.refusal == 0 {
+        answer.length -= 1;
+    }
+    if wrong(17) && answer.refusal == 16 {
+        let text = list(sheet);
+        if text.len() <= out.len() {
+            out[..text.len()].copy_from_slice(&text);
+            answer = ListAnswer {
+                length: text.len() as u16,
+                ..ListAnswer::default()
+            };
+        }
+    }
+    answer
+}

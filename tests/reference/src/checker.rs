@@ -31,19 +31,27 @@ pub fn accept(bytes: &[u8]) -> Outcome<Sheet> {
     let sheet = Sheet::read(bytes, n, c);
     let (tasks, cores) = (&sheet.tasks, &sheet.cores);
     let first_task = |broken: &dyn Fn(usize) -> bool| (0..n).find(|&i| broken(i));
-    let first_core = |broken: &dyn Fn(usize) -> bool| {
-        (0..c).find(|&k| broken(k)).map(|k| core_place(k))
-    };
+    let first_core =
+        |broken: &dyn Fn(usize) -> bool| (0..c).find(|&k| broken(k)).map(|k| core_place(k));
     let period = |p: u64| (1..=LONGEST_PERIOD).contains(&p);
     let factor = |m: u64| (1..=LARGEST_FACTOR).contains(&m);
 
     refuse_at(7, first_task(&|i| !period(tasks[i].period)))?;
-    refuse_at(8, first_task(&|i| !(1..=tasks[i].period).contains(&tasks[i].budget)))?;
+    refuse_at(
+        8,
+        first_task(&|i| !(1..=tasks[i].period).contains(&tasks[i].budget)),
+    )?;
     refuse_at(9, first_task(&|i| tasks[i].core >= c))?;
     refuse_at(10, first_core(&|k| tasks.iter().all(|task| task.core != k)))?;
     refuse_at(11, first_task(&|i| !factor(tasks[i].factor)))?;
-    refuse_at(11, first_core(&|k| !period(cores[k].pivot) || !factor(cores[k].divisor)))?;
-    refuse_at(12, first_task(&|i| sheet.accelerated(i) > Fraction::whole(tasks[i].period as u128)))?;
+    refuse_at(
+        11,
+        first_core(&|k| !period(cores[k].pivot) || !factor(cores[k].divisor)),
+    )?;
+    refuse_at(
+        12,
+        first_task(&|i| sheet.accelerated(i) > Fraction::whole(tasks[i].period as u128)),
+    )?;
     refuse_at(13, (0..c).find_map(|k| broken_chain(&sheet, k)))?;
     refuse_at(14, first_core(&|k| sheet.load(k) > Fraction::whole(1)))?;
     Ok(sheet)

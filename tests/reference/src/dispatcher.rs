@@ -121,7 +121,10 @@ fn not_foreign(core: &Core) -> Outcome<()> {
     let in_order = tasks
         .windows(2)
         .all(|pair| priority(&pair[0]) < priority(&pair[1]));
-    refuse_if(21, !tasks.iter().all(in_range) || number_repeated || !in_order)
+    refuse_if(
+        21,
+        !tasks.iter().all(in_range) || number_repeated || !in_order,
+    )
 }
 
 /// Where the task with this number stands, or 17.

@@ -135,7 +135,9 @@ pub fn load(tasks: &[(u64, u64)], core: CoreRecord) -> Fraction {
     let demand = tasks
         .iter()
         .map(|&(budget, factor)| {
-            Fraction::whole(last).ratio(Fraction::whole(factor as u128)).exact()
+            Fraction::whole(last)
+                .ratio(Fraction::whole(factor as u128))
+                .exact()
                 * budget as u128
                 * core.divisor as u128
         })

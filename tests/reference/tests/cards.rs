@@ -17,7 +17,9 @@ fn sheet_b(budget: u64, factor: u64) -> Vec<u8> {
         factor,
     };
     Sheet {
-        tasks: [(3, 1, 1), (7, 1, 2), (13, budget, factor)].map(task).to_vec(),
+        tasks: [(3, 1, 1), (7, 1, 2), (13, budget, factor)]
+            .map(task)
+            .to_vec(),
         cores: vec![CoreRecord {
             pivot: 3,
             divisor: 1,

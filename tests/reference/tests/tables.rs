@@ -56,9 +56,8 @@ fn passes(construction: fn(&[u64], usize) -> Vec<Fraction>, set: u16) -> bool {
     (0..periods.len()).any(|pivot| {
         let accelerated = construction(&periods, pivot);
         let last = accelerated[periods.len() - 1];
-        let demand = |(task, period): (&(u16, u16), &Fraction)| {
-            task.1 as u128 * last.ratio(*period).exact()
-        };
+        let demand =
+            |(task, period): (&(u16, u16), &Fraction)| task.1 as u128 * last.ratio(*period).exact();
         let demands = group(set).iter().zip(&accelerated).map(demand).sum();
         Fraction::whole(demands) <= last
     })

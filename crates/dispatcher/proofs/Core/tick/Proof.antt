@@ -1,4 +1,6 @@
 use borrow.Author.Needs.{needs}
+use Rattle.dispatcher.proofs.Places.{array-length}
+use Rattle.dispatcher.proofs.Outcomes.{op-foreign, count-max, place-room, tick-idles, pending-left, tick-serves}
 use Rattle.dispatcher.proofs.Core.tick.Statement.{statement}
 use Rattle.dispatcher.proofs.Core.tick.Tie as tie
 use Rattle.dispatcher.proofs.Core.tick.Reads as reads
@@ -6,65 +8,71 @@ use Rattle.dispatcher.proofs.Core.tick.Lts as lts
 use Rattle.dispatcher.proofs.all_aged.Reads as all-aged-reads
 use Rattle.dispatcher.proofs.first_pending.Reads as first-pending-reads
 use Rattle.dispatcher.proofs.is_foreign.Reads as is-foreign-reads
+use Rattle.dispatcher.proofs.refuse.Reads as refuse-reads
 use Rattle.dispatcher.proofs.with_job.Reads as with-job-reads
 
--- src/lib.rt:255:12
+-- src/lib.rt:222:12
 is-foreign-requires : tie.Need-is-foreign-requires
 is-foreign-requires c κs = search needs
 
--- src/lib.rt:256:13
+-- src/lib.rt:223:13
+refuse-requires : tie.Need-refuse-requires
+refuse-requires c κs = search needs
+
+-- src/lib.rt:223:13
 returns : tie.Need-returns
-returns c = ?
+returns c = search (op-foreign, needs)
 
--- src/lib.rt:264:13
+-- src/lib.rt:225:13
 first-pending-requires : tie.Need-first-pending-requires
-first-pending-requires c κs = ?
+first-pending-requires c κs = search (count-max, needs)
 
--- src/lib.rt:268:23
+-- src/lib.rt:229:23
 all-aged-requires : tie.Need-all-aged-requires
-all-aged-requires c κs = ?
+all-aged-requires c κs = search (count-max, needs)
 
--- src/lib.rt:266:13
+-- src/lib.rt:227:13
 returns-2 : tie.Need-returns-2
-returns-2 c = ?
+returns-2 c = search (tick-idles, array-length, needs)
 
--- src/lib.rt:271:17
+-- src/lib.rt:232:17
 mul-t : tie.Need-mul-t
-mul-t c = ?
+mul-t c = search (place-room, count-max, needs)
 
--- src/lib.rt:271:17
+-- src/lib.rt:232:17
 element-copy-out-t : tie.Need-element-copy-out-t
-element-copy-out-t c = ?
+element-copy-out-t c = search (place-room, count-max, needs)
 
--- src/lib.rt:273:45
+-- src/lib.rt:234:45
 sub-with-job : tie.Need-sub-with-job
-sub-with-job c = ?
+sub-with-job c = search (pending-left, array-length, needs)
 
--- src/lib.rt:273:26
+-- src/lib.rt:234:26
 with-job-requires : tie.Need-with-job-requires
 with-job-requires c κs = search needs
 
--- src/lib.rt:273:9
-mul-t11 : tie.Need-mul-t11
-mul-t11 c = ?
+-- src/lib.rt:234:9
+mul-t10 : tie.Need-mul-t10
+mul-t10 c = search (place-room, count-max, needs)
 
--- src/lib.rt:273:9
+-- src/lib.rt:234:9
 element-set-from-next : tie.Need-element-set-from-next
-element-set-from-next c = ?
+element-set-from-next c = search (place-room, count-max, needs)
 
--- src/lib.rt:276:19
+-- src/lib.rt:237:19
 all-aged-requires-2 : tie.Need-all-aged-requires-2
-all-aged-requires-2 c κs = ?
+all-aged-requires-2 c κs = search (count-max, needs)
 
--- src/lib.rt:252:5
+-- src/lib.rt:219:5
 returns-3 : tie.Need-returns-3
-returns-3 c = ?
+returns-3 c = search (tick-serves, array-length, needs)
 
 pub tick-spec : {M : Type 1} → statement M
 tick-spec =
     tie.close
     (tie.spec
     is-foreign-requires
+    refuse-requires
     returns
     first-pending-requires
     all-aged-requires
@@ -73,7 +81,7 @@ tick-spec =
     element-copy-out-t
     sub-with-job
     with-job-requires
-    mul-t11
+    mul-t10
     element-set-from-next
     all-aged-requires-2
     returns-3)

@@ -1,0 +1,349 @@
+-- The verdict is "accepted" exactly when the sheet is acceptable; and what follows for each core.
+-- Assumes nothing.
+use Prim.Native.Nat.{ℕ, zero, suc, _+_, _-_, _*_, _≤_, _<_, zero-le}
+use mathlib.Core.Path.{_≡_, refl, sym, ap, _∙_}
+use mathlib.Core.Logic.{_↔_}
+use mathlib.Core.Bool.{Bool, true, false, not, _||_, _&&_, true≢false, false≢true}
+use mathlib.Core.Option.{Option, none, some, Option·none-ne-some, Option·some-ne-none}
+use mathlib.Core.List.{List, [], _∷_, _++_}
+use native.Mathlib.Omega.{arith}
+use native.Mathlib.Nat.{zero-add, le-trans}
+use borrow.Author.Tests.{ltb-false, le-ltb, leb-false, lt-leb, eqb-true, eqb-false, eq-eqb, ne-eqb, not-true, not-false}
+use lib.ListN.{length, getD, take, drop}
+use lib.Dec.{leb, ltb, eqb}
+use Rattle.sheet.specs.Table.{Row, _at_, scan, whole, core, Refused}
+use Rattle.sheet.specs.Ranges.{outOf, badPeriod, badBudget}
+use Rattle.sheet.specs.Numbers.{word}
+use Rattle.sheet.specs.Records.{Figures, figures, taskCount, coreCount}
+use Rattle.sheet.proofs.Ranges.{neither, in-range, range-in}
+use Rattle.sheet.proofs.Scans.{scan-clear, scan-clears, scan-skip, scan-second, scan-none, whole-clear, core-clear}
+use Rattle.fit.specs.Lists.{numbers, find, Each, EachPair}
+use Rattle.fit.specs.Priority.{order}
+use Rattle.fit.specs.Fits.{stretched, chainBreak, overloaded, Multiples}
+use Rattle.fit.proofs.Finds.{find-none, none-find, find-some, findSome-none, none-findSome}
+use Rattle.fit.proofs.Lists.{each-of, each-both}
+use Rattle.fit.proofs.Priority.{order-members, order-count, order-rising}
+use Rattle.fit.proofs.Levels.{chain-multiples, multiples-chain, multiples-pairs, level-load, budget-within, within-period}
+use Rattle.checker.specs.Tests.{isMarked, taskSpares, coreSpares, isSet, badCore, isOn, isNone, bare, badFactor, badPivot, stretchedAt, orderOn, chainBreakOn, overloadedOn}
+use Rattle.checker.specs.Rules.{offset, frameRows, spareRows, taskRows, coreRows, fitRows, recordRows, rules}
+use Rattle.checker.specs.Verdict.{Outcome, accepted, refused, outcome, verdict}
+use Rattle.checker.specs.Accepted.{LoadAtMostOne, Fitting, Acceptable, Schedulable, CoreOf}
+
+-- a table is clear exactly when each of its rows is
+row-clear : (k : ℕ) (o : Option ℕ) (rows : List Row) → o ≡ none → scan rows ≡ none → scan (k at o ∷ rows) ≡ none
+row-clear k o rows e h = sym (scan-skip k o rows none (sym e) (sym h))
+
+end-clear : scan [] ≡ none
+end-clear = sym scan-none
+
+both-clear : (a b : List Row) → scan a ≡ none → scan b ≡ none → scan (a ++ b) ≡ none
+both-clear a b e h = sym (scan-second a b none (sym e) (sym h))
+
+whole-none : (b : Bool) → b ≡ false → whole b ≡ none
+unfolding whole
+whole-none b e = rw e
+
+core-none : (o : Option ℕ) → o ≡ none → core o ≡ none
+unfolding core
+core-none o e = rw e
+
+offset-none : (o : Option ℕ) → o ≡ none → offset o ≡ none
+unfolding offset
+offset-none o e = rw e
+
+offset-clear : (o : Option ℕ) → offset o ≡ none → o ≡ none
+unfolding offset
+offset-clear none e = refl
+offset-clear (some a) e = absurd (Option·some-ne-none _ e)
+
+-- a rule at tasks or cores is kept exactly when its test is false at each
+module _ (q : ℕ → Bool) (n : ℕ) where
+  kept : find q (numbers 0 n) ≡ none → (i : ℕ) → i < n → q i ≡ false
+  kept e i h = find-none q 0 n e i zero-le (rw zero-add h)
+
+  keeps : ((i : ℕ) → i < n → q i ≡ false) → find q (numbers 0 n) ≡ none
+  keeps f = none-find q 0 n (λ i a b. f i (rw zero-add at b))
+
+-- rules 7 to 9
+pub record Tasks (f : Figures) : Type 0 where
+  pub period : (i : ℕ) → i < f .tasks → (1 ≤ f .period i) × (f .period i ≤ 60000)
+  pub budget : (i : ℕ) → i < f .tasks → (1 ≤ f .budget i) × (f .budget i ≤ f .period i)
+  pub core : (i : ℕ) → i < f .tasks → f .core i < f .cores
+
+tasks-kept : (f : Figures) → none ≡ scan (taskRows f) → Tasks f
+unfolding taskRows badPeriod badBudget badCore
+tasks-kept f e =
+    let a = scan-clear 7 _ _ e in
+    let b = scan-clear 8 _ _ (a .1) in
+    let c = scan-clear 9 _ _ (b .1) in
+    record { period = λ i h. in-range 60000 _ (kept (badPeriod (f .period)) _ (a .0) i h)
+           ; budget = λ i h. in-range (f .period i) _ (kept (badBudget (f .period) (f .budget)) _ (b .0) i h)
+           ; core = λ i h. leb-false _ _ (kept (badCore (f .cores) (f .core)) _ (c .0) i h) }
+
+tasks-keep : (f : Figures) → Tasks f → scan (taskRows f) ≡ none
+unfolding taskRows badPeriod badBudget badCore
+tasks-keep f t =
+    row-clear 7 _ _ (keeps (badPeriod (f .period)) _ (λ i h. range-in 60000 _ (t .period i h .0) (t .period i h .1)))
+    (row-clear 8 _ _ (keeps (badBudget (f .period) (f .budget)) _ (λ i h. range-in (f .period i) _ (t .budget i h .0) (t .budget i h .1)))
+    (row-clear 9 _ _ (keeps (badCore (f .cores) (f .core)) _ (λ i h. lt-leb _ _ (t .core i h))) end-clear))
+
+-- rule 10: a core has a task exactly when it is not bare
+not-bare : (n : ℕ) (on : ℕ → ℕ) (k : ℕ) → bare n on k ≡ false → (i : ℕ) × (i < n) × (on i ≡ k)
+unfolding bare isOn isNone
+not-bare n on k e = by (find (isOn on k) (numbers 0 n)) refl
+  where
+    by : (o : Option ℕ) → find (isOn on k) (numbers 0 n) ≡ o → (i : ℕ) × (i < n) × (on i ≡ k)
+    by none t = absurd (true≢false (rw t at e))
+    by (some i) t =
+        let w = find-some (isOn on k) 0 n i t in
+        (i, rw zero-add at w .0, eqb-true _ _ (w .1))
+
+has-task : (n : ℕ) (on : ℕ → ℕ) (k i : ℕ) → i < n → on i ≡ k → bare n on k ≡ false
+unfolding bare isNone isOn
+has-task n on k i h e = by (find (isOn on k) (numbers 0 n)) refl
+  where
+    by : (o : Option ℕ) → find (isOn on k) (numbers 0 n) ≡ o → isNone o ≡ false
+    by none t = absurd (eqb-false _ _ (kept (isOn on k) n t i h) e)
+    by (some j) t = refl
+
+-- rules 10 to 12
+pub record Cores (f : Figures) : Type 0 where
+  pub not-bare : (k : ℕ) → k < f .cores → (i : ℕ) × (i < f .tasks) × (f .core i ≡ k)
+  pub factor : (i : ℕ) → i < f .tasks → (1 ≤ f .factor i) × (f .factor i ≤ 120000)
+  pub pivot : (k : ℕ) → k < f .cores → (1 ≤ f .pivot k) × (f .pivot k ≤ 60000)
+  pub divisor : (k : ℕ) → k < f .cores → (1 ≤ f .divisor k) × (f .divisor k ≤ 120000)
+  pub accelerated : (i : ℕ) → i < f .tasks → f .pivot (f .core i) * f .factor i ≤ f .period i * f .divisor (f .core i)
+
+pub cores-kept : (f : Figures) → none ≡ scan (coreRows f) → Cores f
+unfolding coreRows badFactor badPivot stretchedAt stretched
+cores-kept f e =
+    let a = scan-clear 10 _ _ e in
+    let b = scan-clear 11 _ _ (a .1) in
+    let c = scan-clear 11 _ _ (b .1) in
+    let d = scan-clear 12 _ _ (c .1) in
+    let ends : (k : ℕ) → k < f .cores → (outOf 60000 (f .pivot k) ≡ false) × (outOf 120000 (f .divisor k) ≡ false) = λ k h. neither _ (outOf 120000 (f .divisor k)) (kept (badPivot (f .pivot) (f .divisor)) _ (core-clear _ (c .0)) k h) in
+    record { not-bare = λ k h. not-bare _ _ k (kept (bare (f .tasks) (f .core)) _ (core-clear _ (a .0)) k h)
+           ; factor = λ i h. in-range 120000 _ (kept (badFactor (f .factor)) _ (b .0) i h)
+           ; pivot = λ k h. in-range 60000 _ (ends k h .0)
+           ; divisor = λ k h. in-range 120000 _ (ends k h .1)
+           ; accelerated = λ i h. ltb-false _ _ (kept (stretchedAt f) _ (d .0) i h) }
+
+cores-keep : (f : Figures) → Cores f → scan (coreRows f) ≡ none
+unfolding coreRows badFactor badPivot stretchedAt stretched
+cores-keep f t =
+    row-clear 10 _ _ (core-none _ (keeps (bare (f .tasks) (f .core)) _ (λ k h. has-task _ _ k (t .not-bare k h .0) (t .not-bare k h .1) (t .not-bare k h .2))))
+    (row-clear 11 _ _ (keeps (badFactor (f .factor)) _ (λ i h. range-in 120000 _ (t .factor i h .0) (t .factor i h .1)))
+    (row-clear 11 _ _ (core-none _ (keeps (badPivot (f .pivot) (f .divisor)) _ (λ k h. rw (range-in 60000 _ (t .pivot k h .0) (t .pivot k h .1), range-in 120000 _ (t .divisor k h .0) (t .divisor k h .1)))))
+    (row-clear 12 _ _ (keeps (stretchedAt f) _ (λ i h. le-ltb _ _ (t .accelerated i h))) end-clear)))
+
+-- rules 13 and 14
+pub record Fits (f : Figures) : Type 0 where
+  pub simply-periodic : (k : ℕ) → k < f .cores → Multiples (f .factor) 1 (orderOn f k)
+  pub load : (k : ℕ) → k < f .cores → LoadAtMostOne f k
+
+fits-kept : (f : Figures) → none ≡ scan (fitRows f) → Fits f
+unfolding fitRows chainBreakOn overloadedOn overloaded LoadAtMostOne
+fits-kept f e =
+    let a = scan-clear 13 _ _ e in
+    let b = scan-clear 14 _ _ (a .1) in
+    record { simply-periodic = λ k h. chain-multiples _ 1 _ (findSome-none (chainBreakOn f) 0 (f .cores) (a .0) k zero-le (rw zero-add h))
+           ; load = λ k h. ltb-false _ _ (kept (overloadedOn f) _ (core-clear _ (b .0)) k h) }
+
+fits-keep : (f : Figures) → Fits f → scan (fitRows f) ≡ none
+unfolding fitRows chainBreakOn overloadedOn overloaded LoadAtMostOne
+fits-keep f t =
+    row-clear 13 _ _ (none-findSome (chainBreakOn f) 0 (f .cores) (λ k a h. multiples-chain _ 1 _ (t .simply-periodic k (rw zero-add at h))))
+    (row-clear 14 _ _ (core-none _ (keeps (overloadedOn f) _ (λ k h. le-ltb _ _ (t .load k h)))) end-clear)
+
+-- rule 6: a byte is zero exactly when it is not set
+is-zero : (r : List ℕ) (x : ℕ) → isSet r x ≡ false → getD r x 0 ≡ 0
+unfolding isSet
+is-zero r x e = eqb-true _ _ (not-false _ e)
+
+not-set : (r : List ℕ) (x : ℕ) → getD r x 0 ≡ 0 → isSet r x ≡ false
+unfolding isSet
+not-set r x e = rw e
+
+-- a search that finds nothing, at its first step, and the other way round
+step-none : (q : ℕ → Bool) (x : ℕ) (l : List ℕ) → find q (x ∷ l) ≡ none → (q x ≡ false) × (find q l ≡ none)
+unfolding find
+step-none q x l e = by (q x) refl
+  where
+    by : (b : Bool) → q x ≡ b → (q x ≡ false) × (find q l ≡ none)
+    by true t = absurd (Option·some-ne-none x (rw t at e))
+    by false t = (t, rw t at e)
+
+none-step : (q : ℕ → Bool) (x : ℕ) (l : List ℕ) → q x ≡ false → find q l ≡ none → find q (x ∷ l) ≡ none
+unfolding find
+none-step q x l e h = rw e h
+
+-- rule 6 in the task records and in the core records
+tasks-spared : (r : List ℕ) (a n : ℕ) → find (isSet r) (taskSpares a n) ≡ none → (i : ℕ) → i < n → getD r (a + 10 * i + 5) 0 ≡ 0
+unfolding taskSpares
+tasks-spared r a zero e i h = absurd (omega arith)
+tasks-spared r a (suc n) e zero h =
+    let z : a + 10 * 0 + 5 ≡ a + 5 = omega arith in
+    rw z (is-zero r (a + 5) (step-none (isSet r) (a + 5) (taskSpares (a + 10) n) e .0))
+tasks-spared r a (suc n) e (suc i) h =
+    let z : a + 10 * suc i + 5 ≡ a + 10 + 10 * i + 5 = omega arith in
+    rw z (tasks-spared r (a + 10) n (step-none (isSet r) (a + 5) (taskSpares (a + 10) n) e .1) i (omega arith))
+
+spared-tasks : (r : List ℕ) (a n : ℕ) → ((i : ℕ) → i < n → getD r (a + 10 * i + 5) 0 ≡ 0) → find (isSet r) (taskSpares a n) ≡ none
+unfolding taskSpares find
+spared-tasks r a zero f = refl
+spared-tasks r a (suc n) f =
+    let z : a + 10 * 0 + 5 ≡ a + 5 = omega arith in
+    let first : getD r (a + 5) 0 ≡ 0 = rw z at (f 0 (omega arith)) in
+    none-step (isSet r) (a + 5) (taskSpares (a + 10) n) (not-set r (a + 5) first) (spared-tasks r (a + 10) n rest)
+  where
+    rest : (i : ℕ) → i < n → getD r (a + 10 + 10 * i + 5) 0 ≡ 0
+    rest i h =
+        let z : a + 10 * suc i + 5 ≡ a + 10 + 10 * i + 5 = omega arith in
+        rw z at (f (suc i) (omega arith))
+
+cores-spared : (r : List ℕ) (a c : ℕ) → find (isSet r) (coreSpares a c) ≡ none → (k : ℕ) → k < c → (getD r (a + 8 * k + 2) 0 ≡ 0) × (getD r (a + 8 * k + 3) 0 ≡ 0)
+unfolding coreSpares
+cores-spared r a zero e k h = absurd (omega arith)
+cores-spared r a (suc c) e zero h =
+    let u = step-none (isSet r) (a + 2) ((a + 3) ∷ coreSpares (a + 8) c) e in
+    let v = step-none (isSet r) (a + 3) (coreSpares (a + 8) c) (u .1) in
+    let z : a + 8 * 0 ≡ a = omega arith in
+    rw z (is-zero r (a + 2) (u .0), is-zero r (a + 3) (v .0))
+cores-spared r a (suc c) e (suc k) h =
+    let u = step-none (isSet r) (a + 2) ((a + 3) ∷ coreSpares (a + 8) c) e in
+    let v = step-none (isSet r) (a + 3) (coreSpares (a + 8) c) (u .1) in
+    let z : a + 8 * suc k ≡ a + 8 + 8 * k = omega arith in
+    rw z (cores-spared r (a + 8) c (v .1) k (omega arith))
+
+spared-cores : (r : List ℕ) (a c : ℕ) → ((k : ℕ) → k < c → (getD r (a + 8 * k + 2) 0 ≡ 0) × (getD r (a + 8 * k + 3) 0 ≡ 0)) → find (isSet r) (coreSpares a c) ≡ none
+unfolding coreSpares find
+spared-cores r a zero f = refl
+spared-cores r a (suc c) f =
+    let z : a + 8 * 0 ≡ a = omega arith in
+    let first : (getD r (a + 2) 0 ≡ 0) × (getD r (a + 3) 0 ≡ 0) = rw z at (f 0 (omega arith)) in
+    none-step (isSet r) (a + 2) ((a + 3) ∷ coreSpares (a + 8) c) (not-set r (a + 2) (first .0))
+    (none-step (isSet r) (a + 3) (coreSpares (a + 8) c) (not-set r (a + 3) (first .1)) (spared-cores r (a + 8) c rest))
+  where
+    rest : (k : ℕ) → k < c → (getD r (a + 8 + 8 * k + 2) 0 ≡ 0) × (getD r (a + 8 + 8 * k + 3) 0 ≡ 0)
+    rest k h =
+        let z : a + 8 * suc k ≡ a + 8 + 8 * k = omega arith in
+        rw z at (f (suc k) (omega arith))
+
+-- rules 1 to 5
+pub record Framed (s : List ℕ) : Type 0 where
+  pub mark : (getD s 0 0 ≡ 0x54) × (getD s 1 0 ≡ 0x53) × (getD s 2 0 ≡ 0x48)
+  pub version : word s 3 ≡ 1
+  pub tasks : taskCount s ≤ 64
+  pub cores : coreCount s ≤ 8
+  pub size : length s ≡ 8 + 10 * taskCount s + 8 * coreCount s
+
+both : (a b : Bool) → (a && b) ≡ true → (a ≡ true) × (b ≡ true)
+both true b e = (refl, e)
+both false b e = absurd (false≢true e)
+
+pub frame-kept : (s : List ℕ) → none ≡ scan (frameRows s) → Framed s
+unfolding frameRows isMarked
+frame-kept s e =
+    let a = scan-clear 1 _ _ e in
+    let b = scan-clear 2 _ _ (a .1) in
+    let c = scan-clear 3 _ _ (b .1) in
+    let d = scan-clear 4 _ _ (c .1) in
+    let g = scan-clear 5 _ _ (d .1) in
+    let m = both (eqb (getD s 0 0) 0x54) _ (not-false _ (whole-clear _ (b .0))) in
+    let m′ = both (eqb (getD s 1 0) 0x53) (eqb (getD s 2 0) 0x48) (m .1) in
+    let n = neither (ltb 64 (taskCount s)) (ltb 8 (coreCount s)) (whole-clear _ (d .0)) in
+    record { mark = (eqb-true _ _ (m .0), eqb-true _ _ (m′ .0), eqb-true _ _ (m′ .1))
+           ; version = eqb-true _ _ (not-false _ (whole-clear _ (c .0)))
+           ; tasks = ltb-false _ _ (n .0)
+           ; cores = ltb-false _ _ (n .1)
+           ; size = eqb-true _ _ (not-false _ (whole-clear _ (g .0))) }
+
+frame-keep : (s : List ℕ) → Framed s → scan (frameRows s) ≡ none
+unfolding frameRows isMarked
+frame-keep s t =
+    row-clear 1 _ _ (whole-none _ (le-ltb (length s) 8 (omega (arith, t .size))))
+    (row-clear 2 _ _ (whole-none _ (rw (t .mark .0, t .mark .1, t .mark .2)))
+    (row-clear 3 _ _ (whole-none _ (rw (t .version)))
+    (row-clear 4 _ _ (whole-none _ (rw (le-ltb 64 (taskCount s) (t .tasks), le-ltb 8 (coreCount s) (t .cores))))
+    (row-clear 5 _ _ (whole-none _ (rw (eq-eqb _ _ (t .size)))) end-clear))))
+
+-- the verdict and the table
+clear-accepted : (s : List ℕ) → scan (rules s) ≡ none → verdict s ≡ accepted (taskCount s) (coreCount s)
+unfolding verdict outcome
+clear-accepted s e = rw e
+
+accepted-clear : (s : List ℕ) (n c : ℕ) → verdict s ≡ accepted n c → (none ≡ scan (rules s)) × (n ≡ taskCount s) × (c ≡ coreCount s)
+unfolding verdict outcome
+accepted-clear s n c e = by (scan (rules s)) e
+  where
+    by : (o : Option Refused) → outcome o (taskCount s) (coreCount s) ≡ accepted n c → (none ≡ o) × (n ≡ taskCount s) × (c ≡ coreCount s)
+    by none t = (refl, cc, cc)
+    by (some r) t = absurd (let z : _≡_ {A = ℕ} 0 1 = cc in omega arith)
+
+-- acceptance, from the table and back
+from-table : (s : List ℕ) → none ≡ scan (rules s) → Acceptable s
+unfolding rules spareRows recordRows
+from-table s e =
+    let f : Figures = figures s in
+    let a = scan-clears (frameRows s) (spareRows (taskCount s) (coreCount s) s (drop 8 s) ++ recordRows f) e in
+    let b = scan-clears (spareRows (taskCount s) (coreCount s) s (drop 8 s)) (recordRows f) (a .1) in
+    let d = scan-clears (taskRows f) (coreRows f ++ fitRows f) (b .1) in
+    let g = scan-clears (coreRows f) (fitRows f) (d .1) in
+    let x = scan-clear 6 (find (isSet s) (7 ∷ [])) _ (b .0) in
+    let y = scan-clear 6 _ _ (x .1) in
+    let z = scan-clear 6 _ _ (y .1) in
+    let frame = frame-kept s (a .0) in
+    let tasks = tasks-kept f (d .0) in
+    let cores = cores-kept f (g .0) in
+    let fits = fits-kept f (g .1) in
+    record { mark = frame .mark; version = frame .version; tasks = frame .tasks; cores = frame .cores; size = frame .size
+           ; spare-header = is-zero s 7 (step-none (isSet s) 7 [] (x .0) .0)
+           ; spare-tasks = λ i h. rw (zero-add (10 * i)) at (tasks-spared (drop 8 s) 0 (taskCount s) (offset-clear _ (y .0)) i h)
+           ; spare-cores = cores-spared (drop 8 s) (10 * taskCount s) (coreCount s) (offset-clear _ (z .0))
+           ; fitting = record { period = tasks .period; budget = tasks .budget; core = tasks .core; not-bare = cores .not-bare; factor = cores .factor; pivot = cores .pivot; divisor = cores .divisor; accelerated = cores .accelerated; simply-periodic = fits .simply-periodic; load = fits .load } }
+
+to-table : (s : List ℕ) → Acceptable s → scan (rules s) ≡ none
+unfolding rules spareRows recordRows find
+to-table s t =
+    let g : Fitting (figures s) = t .fitting in
+    both-clear (frameRows s) _ (frame-keep s (record { mark = t .mark; version = t .version; tasks = t .tasks; cores = t .cores; size = t .size }))
+    (both-clear (spareRows (taskCount s) (coreCount s) s (drop 8 s)) _
+    (row-clear 6 _ _ (none-step (isSet s) 7 [] (not-set s 7 (t .spare-header)) refl)
+    (row-clear 6 _ _ (offset-none _ (spared-tasks (drop 8 s) 0 (taskCount s) (λ i h. rw (zero-add (10 * i)) (t .spare-tasks i h))))
+    (row-clear 6 _ _ (offset-none _ (spared-cores (drop 8 s) (10 * taskCount s) (coreCount s) (t .spare-cores))) end-clear)))
+    (both-clear (taskRows (figures s)) _ (tasks-keep (figures s) (record { period = g .period; budget = g .budget; core = g .core }))
+    (both-clear (coreRows (figures s)) _ (cores-keep (figures s) (record { not-bare = g .not-bare; factor = g .factor; pivot = g .pivot; divisor = g .divisor; accelerated = g .accelerated }))
+    (fits-keep (figures s) (record { simply-periodic = g .simply-periodic; load = g .load })))))
+
+-- The verdict is "accepted with n and c" exactly when the sheet is acceptable and n and c are its counts.
+pub accepted-exactly : (s : List ℕ) (n c : ℕ) → (verdict s ≡ accepted n c) ↔ (Acceptable s × (n ≡ taskCount s) × (c ≡ coreCount s))
+accepted-exactly s n c =
+    ( (λ e. let w = accepted-clear s n c e in (from-table s (w .0), w .1, w .2))
+    , (λ t. clear-accepted s (to-table s (t .0)) ∙ rw (t .1, t .2)) )
+
+-- what a dispatcher may rely on, for core k of figures that fit
+schedulable : (f : Figures) (k : ℕ) → f .tasks ≤ 64 → k < f .cores → Fitting f → Schedulable (f .period) (f .budget) (f .factor) (f .pivot k) (f .divisor k) (orderOn f k)
+unfolding orderOn LoadAtMostOne
+schedulable f k n h g =
+    let l : List ℕ = order (f .period) (f .core) k (f .tasks) in
+    let members : Each (λ i. (i < f .tasks) × (f .core i ≡ k)) l = order-members (f .period) (f .core) k (f .tasks) in
+    let positive : Each (λ i. 0 < f .factor i) l = each-of l (λ i m. g .factor i (m .0) .0) members in
+    let fast : Each (λ i. f .pivot k * f .factor i ≤ f .period i * f .divisor k) l = each-of l (λ i m. rw (m .1) at (g .accelerated i (m .0))) members in
+    record { count = le-trans (order-count (f .period) (f .core) k (f .tasks)) n
+           ; number = each-of l (λ i m. le-trans (m .0) n) members
+           ; order = order-rising (f .period) (f .core) k (f .tasks)
+           ; period = each-of l (λ i m. g .period i (m .0)) members
+           ; budget = each-of l (λ i m. g .budget i (m .0)) members
+           ; factor = positive
+           ; divisor = g .divisor k h .0
+           ; accelerated = fast
+           ; multiples = multiples-pairs (f .factor) 1 l (g .simply-periodic k h)
+           ; level = level-load (f .budget) (f .factor) (f .divisor k) (f .pivot k) l (g .simply-periodic k h) positive (g .load k h)
+           ; bounds = each-both l (λ i a b. (a, b)) (budget-within (f .budget) (f .factor) (f .divisor k) (f .pivot k) l (g .simply-periodic k h) positive (g .load k h) (g .divisor k h .0)) (each-of l (λ i a. within-period (f .pivot k) (f .divisor k) (f .factor i) (f .period i) a) fast) }
+
+-- The acceptance contract: all that a dispatcher uses of an accepted sheet.
+pub core-of : (s : List ℕ) (n c k : ℕ) → verdict s ≡ accepted n c → k < c → CoreOf s k
+core-of s n c k e h =
+    let w = accepted-exactly s n c .0 e in
+    let q : k < coreCount s = rw (w .2) at h in
+    record { tasks = w .0 .tasks; size = w .0 .size; core = q; schedulable = schedulable (figures s) k (w .0 .tasks) q (w .0 .fitting) }

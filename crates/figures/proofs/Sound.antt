@@ -1,0 +1,94 @@
+-- What both constructions give: every task accelerated, factors in a chain from 1, and figures in range.
+-- Assumes nothing.
+use Prim.Native.Nat.{ℕ, zero, suc, _*_, _≤_, _<_}
+use mathlib.Core.Path.{_≡_, refl, sym, ap, _∙_}
+use mathlib.Core.Bool.{Bool, true, false, _&&_, false≢true}
+use mathlib.Core.List.{List, [], _∷_}
+use native.Mathlib.Nat.{mul-comm, mul-assoc, mul-left-comm, mul-le-mul, mul-le-mul-left, mul-lt-mul-of-pos-left, lt-of-mul-lt-mul-left, lt-of-le-of-lt, le-trans, lt-of-lt-of-le, le-refl}
+use native.Mathlib.Omega.{arith}
+use borrow.Author.Tests.{leb-true}
+use lib.ListN.{length, getD}
+use lib.Dec.{leb}
+use Rattle.fit.specs.Fits.{Multiple}
+use Rattle.figures.specs.Constructions.{Acceleration, at}
+use Rattle.figures.specs.Passing.{rising}
+
+-- periods in priority order, none below a and none above 60,000
+unfoldable pub Rising : ℕ → List ℕ → Type 0
+Rising a [] = Unit {0}
+Rising a (p ∷ ps) = (a ≤ p) × (p ≤ 60000) × Rising p ps
+
+pub both-true : (s t : Bool) → (s && t) ≡ true → (s ≡ true) × (t ≡ true)
+both-true true t h = (refl, h)
+both-true false t h = absurd (false≢true h)
+
+pub rising-test : (a : ℕ) (ps : List ℕ) → rising a ps ≡ true → Rising a ps
+unfolding rising Rising
+rising-test a [] h = tt
+rising-test a (p ∷ ps) h =
+    let (x, y) = both-true (leb a p && leb p 60000) (rising p ps) h in
+    let (u, v) = both-true (leb a p) (leb p 60000) x in
+    (leb-true a p u, leb-true p 60000 v, rising-test p ps y)
+
+-- no period is below one before it
+pub rising-at : (a : ℕ) (ps : List ℕ) → Rising a ps → (i : ℕ) → i < length ps → (a ≤ at ps i) × (at ps i ≤ 60000)
+unfolding Rising
+rising-at a [] h i q = absurd (omega arith)
+rising-at a (p ∷ ps) h zero q = (h .0, h .1)
+rising-at a (p ∷ ps) h (suc i) q = let r = rising-at p ps (h .2) i (omega arith) in (le-trans (h .0) (r .0), r .1)
+
+pub rising-pair : (a : ℕ) (ps : List ℕ) → Rising a ps → (i j : ℕ) → i ≤ j → j < length ps → at ps i ≤ at ps j
+unfolding Rising
+rising-pair a [] h i j q r = absurd (omega arith)
+rising-pair a (p ∷ ps) h zero zero q r = le-refl p
+rising-pair a (p ∷ ps) h zero (suc j) q r = rising-at p ps (h .2) j (omega arith) .0
+rising-pair a (p ∷ ps) h (suc i) zero q r = absurd (omega arith)
+rising-pair a (p ∷ ps) h (suc i) (suc j) q r = rising-pair p ps (h .2) i j (omega arith) (omega arith)
+
+-- a factor after d: Q × M ≤ p × D, a multiple of d, at least 1
+pub record Factor (Q D d p m : ℕ) : Type 0 where
+  pub accelerated : Q * m ≤ p * D
+  pub multiple : Multiple d m
+  pub positive : 0 < m
+
+-- factors of tasks with these periods, after a factor d
+unfoldable pub Factors : ℕ → ℕ → ℕ → List ℕ → List ℕ → Type 0
+Factors Q D d [] [] = Unit {0}
+Factors Q D d [] (m ∷ ms) = ⊥
+Factors Q D d (p ∷ ps) [] = ⊥
+Factors Q D d (p ∷ ps) (m ∷ ms) = Factor Q D d p m × Factors Q D m ps ms
+
+-- the figures of tasks with these periods, by a construction whose accelerated periods are above 1 / b of the periods
+pub record Sound (b : ℕ) (ps : List ℕ) (a : Acceleration) : Type 0 where
+  pub pivot : (1 ≤ a .Q) × (a .Q ≤ 60000)
+  pub divisor : (1 ≤ a .D) × (a .D < b * a .Q)
+  pub one : at (a .factors) 0 ≡ 1
+  pub factors : Factors (a .Q) (a .D) 1 ps (a .factors)
+
+pub factors-length : (Q D d : ℕ) (ps ms : List ℕ) → Factors Q D d ps ms → length ms ≡ length ps
+unfolding Factors
+factors-length Q D d [] [] h = refl
+factors-length Q D d (p ∷ ps) (m ∷ ms) h = ap suc (factors-length Q D m ps ms (h .1))
+
+pub factors-at : (Q D d : ℕ) (ps ms : List ℕ) → Factors Q D d ps ms → (i : ℕ) → i < length ps → (Q * at ms i ≤ at ps i * D) × (0 < at ms i)
+unfolding Factors
+factors-at Q D d [] [] h i q = absurd (omega arith)
+factors-at Q D d (p ∷ ps) (m ∷ ms) h zero q = (h .0 .accelerated, h .0 .positive)
+factors-at Q D d (p ∷ ps) (m ∷ ms) h (suc i) q = factors-at Q D m ps ms (h .1) i (omega arith)
+
+-- an accelerated factor is below b times its period
+factor-bound : (b Q D p m : ℕ) → 0 < p → D < b * Q → Q * m ≤ p * D → m < b * p
+factor-bound b Q D p m pos d h =
+    let more : p * D < p * (b * Q) = mul-lt-mul-of-pos-left d pos in
+    let turned : p * (b * Q) ≡ Q * (b * p) = mul-left-comm p b Q ∙ ap (λ x. b * x) (mul-comm p Q) ∙ mul-left-comm b Q p in
+    lt-of-mul-lt-mul-left Q (omega arith)
+
+-- divisor and factors are below b × 60,000
+pub divisor-bound : (b : ℕ) (ps : List ℕ) (a : Acceleration) → Sound b ps a → a .D < b * 60000
+divisor-bound b ps a s = lt-of-lt-of-le (s .divisor .1) (mul-le-mul-left b (s .pivot .1))
+
+pub factors-bound : (b : ℕ) (ps : List ℕ) (a : Acceleration) → Rising 1 ps → Sound b ps a → (i : ℕ) → i < length ps → at (a .factors) i < b * 60000
+factors-bound b ps a r s i q =
+    let (low, high) = rising-at 1 ps r i q in
+    let own : at (a .factors) i < b * at ps i = factor-bound b (a .Q) (a .D) (at ps i) (at (a .factors) i) low (s .divisor .1) (factors-at (a .Q) (a .D) 1 ps (a .factors) (s .factors) i q .0) in
+    lt-of-lt-of-le own (mul-le-mul-left b high)

@@ -1,0 +1,129 @@
+-- Sr on any base from 2 up: its figures are sound, and a multiplier is the largest power whose exponent may be negative.
+-- Assumes nothing.
+use Prim.Native.Nat.{ℕ, zero, suc, _+_, _-_, _*_, _^_, _≤_, _<_, zero-le}
+use mathlib.Core.Path.{_≡_, refl, sym, ap, _∙_}
+use mathlib.Core.List.{List, [], _∷_, map}
+use native.Mathlib.Nat.{zero-add, mul-one, one-mul, mul-comm, mul-assoc, mul-left-comm, mul-right-comm, pow-zero, pow-suc, mul-le-mul, mul-le-mul-left, mul-le-mul-right, mul-lt-mul-of-pos-left, mul-lt-mul-of-pos-right, lt-of-mul-lt-mul-right, le-of-mul-le-mul-right, le-trans, le-refl, not-le-of-lt, lt-of-le-of-lt, lt-of-lt-of-le, add-sub-of-le, le-of-lt}
+use native.Mathlib.Decide.{decLe, decLt}
+use native.Mathlib.Omega.{arith}
+use lib.ListN.{length, getD, List·getD-map}
+use lib.Pow.{pow-add}
+use Rattle.fit.specs.Fits.{Multiple}
+use Rattle.figures.specs.Constructions.{Acceleration, at, Power, leastPower, largestPower, sr}
+use Rattle.figures.proofs.Powers.{Least, Largest, least-power, largest-power, power-positive, power-mono}
+use Rattle.figures.proofs.Lists.{at-map}
+use Rattle.figures.proofs.Sound.{Rising, rising-at, rising-pair, Factor, Factors, Sound}
+
+-- M / D is the largest power of b, whose exponent may be negative, with Q × power ≤ p: both are powers, Q × M / D ≤ p,
+-- and a power x / y with Q × x / y ≤ p is at most M / D
+pub record Multiplier (b Q p M D : ℕ) : Type 0 where
+  pub factor : Power b M
+  pub divisor : Power b D
+  pub fits : Q * M ≤ p * D
+  pub largest : (j k : ℕ) → Q * b ^ j ≤ p * b ^ k → b ^ j * D ≤ M * b ^ k
+
+module _ (b : ℕ) (two : 2 ≤ b) where
+  -- a larger power is a multiple of a smaller one
+  power-multiple : (j k : ℕ) → j ≤ k → Multiple (b ^ j) (b ^ k)
+  unfolding Multiple
+  power-multiple j k h = (b ^ (k - j), ap (λ (x : ℕ). b ^ x) (sym (add-sub-of-le h)) ∙ pow-add b j (k - j))
+
+  -- the factors after a power b ^ j that fits every period from a on
+  sr-factors : (q D a j : ℕ) (ps : List ℕ) → 0 < q → Rising a ps → q * b ^ j ≤ a * D → Factors q D (b ^ j) ps (map (λ p. largestPower b q (p * D)) ps)
+  unfolding Rising Factors
+  sr-factors q D a j [] pos r h = tt
+  sr-factors q D a j (p ∷ ps) pos r h =
+      let more : q * b ^ j ≤ p * D = le-trans h (mul-le-mul-right D (r .0)) in
+      let least : q * 1 ≤ q * b ^ j = mul-le-mul-left q (power-positive b two j) in
+      let m : Largest b q (p * D) (largestPower b q (p * D)) = largest-power b two q (p * D) pos (omega (arith, mul-one q)) in
+      (record { accelerated = m .fits; multiple = rw (m .power) (power-multiple j (m .exponent) (m .largest j more)); positive = rw (m .power) (power-positive b two (m .exponent)) },
+       rw (m .power) (sr-factors q D p (m .exponent) ps pos (r .2) (rw (← m .power) (m .fits))))
+
+  -- below the least power nothing reaches
+  least-before : (q p m k : ℕ) (h : Least b q p m) → h .exponent ≡ suc k → p * b ^ k < q
+  least-before q p m k h e = by (decLe q (p * b ^ k))
+    where
+      by : Dec (q ≤ p * b ^ k) → p * b ^ k < q
+      by (yes r) = absurd (omega (arith, h .least k r))
+      by (no r) = omega arith
+
+  -- the divisor is below b × q
+  divisor-below : (q p m : ℕ) → 0 < q → 0 < p → Least b q p m → m < b * q
+  divisor-below q p m posq posp h = by (h .exponent) refl
+    where
+      by : (k : ℕ) → h .exponent ≡ k → m < b * q
+      by zero e =
+          let one : m ≡ 1 = h .power ∙ ap (λ (x : ℕ). b ^ x) e ∙ pow-zero b in
+          let low : 2 * 1 ≤ b * q = mul-le-mul two posq in
+          omega arith
+      by (suc k) e =
+          let m-is : m ≡ b * b ^ k = h .power ∙ ap (λ (x : ℕ). b ^ x) e ∙ pow-suc b k ∙ mul-comm (b ^ k) b in
+          let low : 1 * b ^ k ≤ p * b ^ k = mul-le-mul-right (b ^ k) posp in
+          let less : b ^ k < q = omega (arith, least-before q p m k h e, one-mul (b ^ k)) in
+          rw m-is (mul-lt-mul-of-pos-left less (omega arith))
+
+  -- the first factor is 1 where the pivot's period is no shorter than the first
+  first-one : (q p m : ℕ) → 0 < q → 0 < p → p ≤ q → (d : Least b q p m) → largestPower b q (p * m) ≡ 1
+  first-one q p m posq posp le d = by (f .exponent) refl (d .exponent) refl
+    where
+      f : Largest b q (p * m) (largestPower b q (p * m))
+      f = largest-power b two q (p * m) posq (d .reaches)
+
+      by : (i : ℕ) → f .exponent ≡ i → (j : ℕ) → d .exponent ≡ j → largestPower b q (p * m) ≡ 1
+      by zero e j g = f .power ∙ ap (λ (x : ℕ). b ^ x) e ∙ pow-zero b
+      by (suc i) e zero g =
+          let one : m ≡ 1 = d .power ∙ ap (λ (x : ℕ). b ^ x) g ∙ pow-zero b in
+          let fit : q * b ^ suc i ≤ p * 1 = rw (← e, ← one, ← f .power) (f .fits) in
+          let large : 1 * 2 ≤ b ^ i * b = mul-le-mul (power-positive b two i) two in
+          let twice : q * 2 ≤ q * (b ^ i * b) = mul-le-mul-left q (omega arith) in
+          absurd (omega (arith, rw (pow-suc b i, mul-one p) at fit))
+      by (suc i) e (suc j) g =
+          let m-is : m ≡ b ^ j * b = d .power ∙ ap (λ (x : ℕ). b ^ x) g ∙ pow-suc b j in
+          let fit : q * (b ^ i * b) ≤ p * (b ^ j * b) = rw (← pow-suc b i, ← e, ← m-is, ← f .power) (f .fits) in
+          let cut : q * b ^ i ≤ p * b ^ j = le-of-mul-le-mul-right {k = b} (rw (mul-assoc q (b ^ i) b, mul-assoc p (b ^ j) b) fit) (omega arith) in
+          let low : q * 1 ≤ q * b ^ i = mul-le-mul-left q (power-positive b two i) in
+          absurd (omega (arith, least-before q p m j d g, mul-one q))
+
+  pub sr-sound : (ps : List ℕ) (i : ℕ) → Rising 1 ps → i < length ps → Sound b ps (sr b ps i)
+  unfolding Rising sr
+  sr-sound (p ∷ ps) i r h =
+      let (low, high) = rising-at p (p ∷ ps) (le-refl p, r .1, r .2) i h in
+      let q : ℕ = at (p ∷ ps) i in
+      let pos : 0 < q = omega (arith, r .0) in
+      let d : Least b q p (leastPower b q p) = least-power b two q p (r .0) in
+      let D : ℕ = leastPower b q p in
+      let start : q * b ^ 0 ≤ p * D = rw (pow-zero b, mul-one q) (d .reaches) in
+      record { pivot = (pos, high)
+             ; divisor = (rw (d .power) (power-positive b two (d .exponent)), divisor-below q p D pos (r .0) d)
+             ; one = first-one q p D pos (r .0) low d
+             ; factors = rw (pow-zero b) at (sr-factors q D p 0 (p ∷ ps) pos (le-refl p, r .1, r .2) start) }
+  sr-sound [] i r h = absurd (omega arith)
+
+  multiplier : (q p x D M : ℕ) → Least b q x D → Largest b q (p * D) M → Multiplier b q p M D
+  unfolding Power
+  multiplier q p x D M d m =
+      record { factor = (m .exponent, m .power); divisor = (d .exponent, d .power); fits = m .fits
+             ; largest = λ j k z. rw (← d .power, ← m .power) at (by j k z (decLe (j + d .exponent) (m .exponent + k))) }
+    where
+      by : (j k : ℕ) → q * b ^ j ≤ p * b ^ k → Dec (j + d .exponent ≤ m .exponent + k) → b ^ j * b ^ d .exponent ≤ b ^ m .exponent * b ^ k
+      by j k z (yes t) = rw (← pow-add b j (d .exponent), ← pow-add b (m .exponent) k) (power-mono b two t)
+      by j k z (no t) =
+          let e : ℕ = m .exponent in
+          let y : ℕ = d .exponent in
+          let more : b ^ (suc e + k) ≤ b ^ (j + y) = power-mono b two (omega arith) in
+          let both : q * (b ^ suc e * b ^ k) ≤ q * (b ^ j * b ^ y) = mul-le-mul-left q (rw (← pow-add b (suc e) k, ← pow-add b j y) more) in
+          let scaled : q * b ^ j * b ^ y ≤ p * b ^ k * b ^ y = mul-le-mul-right (b ^ y) z in
+          let fit : q * b ^ suc e * b ^ k ≤ p * b ^ y * b ^ k = omega (arith, mul-assoc q (b ^ suc e) (b ^ k), mul-assoc q (b ^ j) (b ^ y), mul-right-comm p (b ^ k) (b ^ y)) in
+          absurd (omega (arith, m .largest (suc e) (rw (d .power) (le-of-mul-le-mul-right fit (power-positive b two k)))))
+
+  -- "Each task has the largest power .., whose exponent may be negative, with Q × power ≤ p as its multiplier."
+  pub sr-multiplier : (ps : List ℕ) (i : ℕ) → Rising 1 ps → i < length ps → (k : ℕ) → k < length ps → Multiplier b (sr b ps i .Q) (at ps k) (at (sr b ps i .factors) k) (sr b ps i .D)
+  unfolding sr
+  sr-multiplier ps i r h k g =
+      let q : ℕ = at ps i in
+      let pos : 0 < q = rising-at 1 ps r i h .0 in
+      let d : Least b q (at ps 0) (leastPower b q (at ps 0)) = least-power b two q (at ps 0) (rising-at 1 ps r 0 (omega arith) .0) in
+      let D : ℕ = leastPower b q (at ps 0) in
+      let reach : at ps 0 * D ≤ at ps k * D = mul-le-mul-right D (rising-pair 1 ps r 0 k zero-le g) in
+      rw (at-map (λ p. largestPower b q (p * D)) ps k g)
+      (multiplier q (at ps k) (at ps 0) D (largestPower b q (at ps k * D)) d (largest-power b two q (at ps k * D) pos (le-trans (d .reaches) reach)))

@@ -1,0 +1,191 @@
+//! The dispatcher: starts, single calls on any state, long lists of calls.
+
+use crate::on_time::{jobs_on_time, Entry, Promise};
+use crate::session::{fail, hex, same, Session};
+use inputs::*;
+use reference::{Core, CoreAnswer, TickAnswer};
+
+pub fn must_have_seen(session: &mut Session) {
+    session.must_have_seen("start", &crate::checking::REFUSALS);
+    session.must_have_seen("start_list", &[4, 5, 7, 8]);
+    session.must_have_seen("release", &[17, 18, 19, 21]);
+    session.must_have_seen("finish", &[17, 20, 21]);
+    session.must_have_seen("tick", &[21]);
+    session.must_have_seen("job on time", &[]);
+}
+
+pub fn round(session: &mut Session, rng: &mut Rng) {
+    lists(session, rng);
+    single_calls(session, rng);
+    for _ in 0..6 {
+        run_of_sheet(session, rng);
+        run_of_list(session, rng);
+    }
+}
+
+/// Starts from job lists of every length and with every damage.
+fn lists(session: &mut Session, rng: &mut Rng) {
+    for length in 0..=300usize {
+        let mut list = job_list(rng, length.div_ceil(4));
+        list.truncate(length);
+        start_list(session, &list);
+        for kind in 0..JOB_DAMAGES {
+            let damaged = damaged_jobs(rng, &list, kind);
+            start_list(session, &damaged);
+        }
+    }
+}
+
+/// One call on states of every damage.
+fn single_calls(session: &mut Session, rng: &mut Rng) {
+    for kind in 0..CORE_DAMAGES {
+        for _ in 0..40 {
+            let core = any_core(rng, kind);
+            tick(session, core);
+            let on_core = core.tasks[rng.index(core.count.clamp(1, 64) as usize)].number;
+            for number in [on_core as u64, any_number(rng, 64)] {
+                release(session, core, number);
+                finish(session, core, number);
+            }
+        }
+    }
+}
+
+fn run_of_sheet(session: &mut Session, rng: &mut Rng) {
+    let bytes = if rng.once_in(2) {
+        planned_sheet(rng)
+    } else {
+        handmade_sheet(rng)
+    };
+    let sheet = reference::accept(&bytes).expect("the sheet is accepted");
+    if sheet.cores.is_empty() {
+        return;
+    }
+    let number = rng.index(sheet.cores.len());
+    let promise = |i: usize| Promise {
+        number: i as u64,
+        period: sheet.tasks[i].period,
+        budget: sheet.tasks[i].budget,
+        within: Some(sheet.within(i)),
+    };
+    let tasks: Vec<Promise> = sheet.by_priority(number).into_iter().map(promise).collect();
+    let fresh = start_sheet(session, &bytes, number as u64).core;
+    let input = || format!("{} core {number}", hex(&bytes));
+    run(session, rng, fresh, &tasks, input);
+}
+
+fn run_of_list(session: &mut Session, rng: &mut Rng) {
+    let count = rng.index(65);
+    let list = job_list(rng, count);
+    let fresh = start_list(session, &list).core;
+    let promise = |task: &reference::Task| Promise {
+        number: task.number as u64,
+        period: task.period as u64,
+        budget: task.budget as u64,
+        within: None,
+    };
+    let tasks: Vec<Promise> = fresh.used().iter().map(promise).collect();
+    run(session, rng, fresh, &tasks, || hex(&list));
+}
+
+/// A long list of calls from a fresh state, each on the state before it.
+fn run(
+    session: &mut Session,
+    rng: &mut Rng,
+    fresh: Core,
+    tasks: &[Promise],
+    input: impl Fn() -> String,
+) {
+    let style = rng.range(1, 5);
+    let mut core = fresh;
+    let mut log = Vec::new();
+    for _ in 0..rng.range(0, 3000) {
+        let call = random_call(rng, &core, style);
+        let (refusal, task);
+        (refusal, task, core) = match call {
+            Call::Release(number) => parts(release(session, core, number)),
+            Call::Finish(number) => parts(finish(session, core, number)),
+            Call::Tick => {
+                let answer = tick(session, core);
+                (answer.refusal, answer.task, answer.core)
+            }
+        };
+        log.push(Entry {
+            call,
+            refusal,
+            task,
+        });
+    }
+    match jobs_on_time(&log, tasks) {
+        Ok(0) => {}
+        Ok(_) => session.case("job on time", 0),
+        Err(what) => {
+            let calls: Vec<Call> = log.iter().map(|entry| entry.call).collect();
+            fail("the on-time rule", &format!("{} {calls:?}", input()), &what);
+        }
+    }
+}
+
+fn parts(answer: CoreAnswer) -> (u8, u8, Core) {
+    (answer.refusal, 0, answer.core)
+}
+
+/// Compare a start from these bytes.
+pub fn start(session: &mut Session, rng: &mut Rng, bytes: &[u8]) {
+    let cores = bytes.get(6).map_or(0, |&count| count as u64);
+    start_sheet(session, bytes, any_number(rng, cores));
+}
+
+fn start_sheet(session: &mut Session, bytes: &[u8], core: u64) -> CoreAnswer {
+    let reference = reference::start_sheet(bytes, core);
+    let library = binding::start_sheet(bytes, core);
+    let input = || format!("{} core {core}", hex(bytes));
+    same("start", input, &reference, &library);
+    session.case("start", reference.refusal);
+    library
+}
+
+fn start_list(session: &mut Session, list: &[u8]) -> CoreAnswer {
+    let reference = reference::start_list(list);
+    let library = binding::start_list(list);
+    same("start_list", || hex(list), &reference, &library);
+    session.case("start_list", reference.refusal);
+    library
+}
+
+fn release(session: &mut Session, core: Core, number: u64) -> CoreAnswer {
+    let reference = reference::release(core, number);
+    let library = binding::release(core, number);
+    let input = || format!("{} number {number}", state_hex(&core));
+    same("release", input, &reference, &library);
+    session.case("release", reference.refusal);
+    library
+}
+
+fn finish(session: &mut Session, core: Core, number: u64) -> CoreAnswer {
+    let reference = reference::finish(core, number);
+    let library = binding::finish(core, number);
+    let input = || format!("{} number {number}", state_hex(&core));
+    same("finish", input, &reference, &library);
+    session.case("finish", reference.refusal);
+    library
+}
+
+fn tick(session: &mut Session, core: Core) -> TickAnswer {
+    let (reference, library) = (reference::tick(core), binding::tick(core));
+    same("tick", || state_hex(&core), &reference, &library);
+    session.case("tick", reference.refusal);
+    library
+}
+
+/// The count, and a state's tasks field by field, low byte first.
+fn state_hex(core: &Core) -> String {
+    let mut bytes = core.count.to_le_bytes().to_vec();
+    for task in &core.tasks {
+        for field in [task.period, task.budget, task.age, task.left] {
+            bytes.extend(field.to_le_bytes());
+        }
+        bytes.push(task.number);
+    }
+    hex(&bytes)
+}

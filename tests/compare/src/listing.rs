@@ -1,0 +1,20 @@
+//! The listing.
+
+use crate::session::{hex, same, same_bytes, Lent, Session};
+use inputs::Rng;
+
+pub const REFUSALS: [u8; 1] = [16];
+
+/// Compare the listing of these bytes, now and then with a small output.
+pub fn list(session: &mut Session, rng: &mut Rng, sheet: &[u8]) {
+    let small = rng.range(0, 8191);
+    let room = rng.pick(&[8192, 8192, 8192, 8193, 9000, 8191, small]) as usize;
+    let mut ours = Lent::new(room, rng.next());
+    let mut theirs = ours.clone();
+    let reference = reference::list_into(sheet, ours.lend());
+    let library = binding::list_into(sheet, theirs.lend());
+    let input = || format!("{} output of {room} bytes", hex(sheet));
+    same("list", input, &reference, &library);
+    same_bytes("list", input, &ours, &theirs);
+    session.case("list", reference.refusal);
+}

@@ -1,0 +1,65 @@
+//! The planner.
+
+use crate::checking::check;
+use crate::session::{hex, same, same_bytes, Lent, Session};
+use inputs::*;
+
+pub const REFUSALS: [u8; 7] = [4, 5, 7, 8, 15, 16, 22];
+
+pub fn round(session: &mut Session, rng: &mut Rng) {
+    // lists of every length, over 64 entries too
+    for length in 0..=300usize {
+        let mut list = job_list(rng, length.div_ceil(4));
+        list.truncate(length);
+        let (limit, start) = (any_number(rng, 9), any_number(rng, length as u64 / 4));
+        plan(session, rng, &list, limit, start, 712);
+    }
+    // outputs of every length
+    let list = job_list(rng, 3);
+    for room in 0..=800 {
+        plan(session, rng, &list, 3, 0, room);
+    }
+    // every limit and every start
+    for _ in 0..10 {
+        let count = rng.range(0, 64);
+        let list = job_list(rng, count as usize);
+        for limit in 0..=9 {
+            let start = rng.below(count.max(1));
+            plan(session, rng, &list, limit, start, 712);
+        }
+    }
+    let list = job_list(rng, 12);
+    for start in 0..=13 {
+        plan(session, rng, &list, 4, start, 720);
+    }
+    for kind in 0..JOB_DAMAGES {
+        for _ in 0..20 {
+            let count = rng.index(65);
+            let list = job_list(rng, count);
+            let list = damaged_jobs(rng, &list, kind);
+            let (limit, start) = (any_number(rng, 9), any_number(rng, list.len() as u64 / 4));
+            let room = rng.pick(&[0, 711, 712, 713, 800]);
+            plan(session, rng, &list, limit, start, room);
+        }
+    }
+}
+
+/// Compare the planner; what it writes goes to the checker, which accepts it.
+fn plan(session: &mut Session, rng: &mut Rng, list: &[u8], limit: u64, start: u64, room: usize) {
+    let mut ours = Lent::new(room, rng.next());
+    let mut theirs = ours.clone();
+    let reference = reference::plan(list, limit, start, ours.lend());
+    let library = binding::plan(list, limit, start, theirs.lend());
+    let input = || {
+        let list = hex(list);
+        format!("jobs {list} limit {limit} start {start} output of {room} bytes")
+    };
+    same("plan", input, &reference, &library);
+    same_bytes("plan", input, &ours, &theirs);
+    session.case("plan", reference.refusal);
+    if reference.refusal == 0 {
+        let sheet = &ours.lend()[..reference.length as usize];
+        check(session, sheet);
+        assert_eq!(reference::check(sheet).refusal, 0);
+    }
+}

@@ -1,0 +1,81 @@
+//! Random states of a core.
+
+use crate::{job_list, Rng};
+use reference::{start_list, Core, Task};
+
+pub const CORE_DAMAGES: usize = 12;
+
+/// A state in which ages and ticks left are in range. Kind 0 leaves it so;
+/// every other kind changes one thing, which may break its form.
+pub fn any_core(rng: &mut Rng, kind: usize) -> Core {
+    let mut core = sound_core(rng);
+    damage(rng, &mut core, kind);
+    core
+}
+
+fn sound_core(rng: &mut Rng) -> Core {
+    let count = rng.range(0, 64) as usize;
+    let full = start_list(&job_list(rng, count)).core;
+    let mut core = Core::EMPTY;
+    let thin = rng.once_in(2);
+    for task in full.used() {
+        // the numbers that are left need not be 0, 1, 2 ..
+        if thin && rng.once_in(2) {
+            continue;
+        }
+        let age = rng.range(0, task.period as u64) as u16;
+        let left = rng.range(1, task.budget as u64) as u16;
+        core.tasks[core.count as usize] = Task {
+            age: rng.pick(&[task.period, task.period, 0, age]),
+            left: rng.pick(&[0, 0, task.budget, left]),
+            ..*task
+        };
+        core.count += 1;
+    }
+    if rng.once_in(2) {
+        for place in core.count as usize..64 {
+            core.tasks[place] = random_task(rng);
+        }
+    }
+    core
+}
+
+fn random_task(rng: &mut Rng) -> Task {
+    Task {
+        period: rng.next() as u16,
+        budget: rng.next() as u16,
+        age: rng.next() as u16,
+        left: rng.next() as u16,
+        number: rng.next() as u8,
+    }
+}
+
+fn damage(rng: &mut Rng, core: &mut Core, kind: usize) {
+    let count = core.count as usize;
+    let numbers = core.tasks.map(|task| task.number);
+    let at = rng.index(count.max(1));
+    let other = rng.index(count.max(1));
+    let task = &mut core.tasks[at];
+    match kind {
+        0 => {}
+        1 => core.count = rng.pick(&[64, 65, 255, 256, 1 << 32, u64::MAX]),
+        2 => core.count = rng.below(66),
+        3 => task.period = rng.pick(&[0, 1, 60_000, 60_001, 65_535]),
+        4 => task.budget = rng.pick(&[0, 1, task.period, task.period.saturating_add(1)]),
+        5 => task.age = rng.pick(&[0, task.period, task.period.saturating_add(1), 65_535]),
+        6 => task.left = rng.pick(&[0, task.budget, task.budget.saturating_add(1), 65_535]),
+        7 => task.number = rng.pick(&[0, 63, 64, 255, numbers[other]]),
+        8 => core.tasks.swap(at, other),
+        9 => core.tasks.swap(at, (at + 1).min(63)),
+        10 => *task = random_task(rng),
+        // a neighbour with the same period: the numbers decide
+        _ => {
+            let period = task.period;
+            let next = &mut core.tasks[(at + 1).min(63)];
+            next.period = period;
+            next.budget = next.budget.min(next.period);
+            next.age = next.age.min(next.period);
+            next.left = next.left.min(next.budget);
+        }
+    }
+}
