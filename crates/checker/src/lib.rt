@@ -48,8 +48,7 @@ enum Judged {
 fn bad_period(tasks: &[u8], i: u8) -> bool
     ensures { λ r. ⌜ r ≡ badPeriod (periodAt (now (tasks .entry))) i ⌝ }
 {
-    let p = sheet::period(tasks, i);
-    (p == 0) | (60_000 < p)
+    sheet::out_of(60_000, sheet::period(tasks, i) as u32)
 }
 
 fn bad_budget(tasks: &[u8], i: u8) -> bool
@@ -57,7 +56,7 @@ fn bad_budget(tasks: &[u8], i: u8) -> bool
 {
     let p = sheet::period(tasks, i);
     let e = sheet::budget(tasks, i);
-    (e == 0) | (p < e)
+    sheet::out_of(p as u32, e as u32)
 }
 
 fn bad_core(tasks: &[u8], c: u8, i: u8) -> bool
@@ -82,16 +81,15 @@ fn is_bare(tasks: &[u8], n: u8, k: u8) -> bool
 fn bad_factor(tasks: &[u8], i: u8) -> bool
     ensures { λ r. ⌜ r ≡ badFactor (factorAt (now (tasks .entry))) i ⌝ }
 {
-    let m = sheet::factor(tasks, i);
-    (m == 0) | (120_000 < m)
+    sheet::out_of(120_000, sheet::factor(tasks, i))
 }
 
 fn bad_pivot(cores: &[u8], k: u8) -> bool
     ensures { λ r. ⌜ r ≡ badPivot (pivotAt (now (cores .entry))) (divisorAt (now (cores .entry))) k ⌝ }
 {
-    let q = sheet::pivot(cores, k);
-    let d = sheet::divisor(cores, k);
-    ((q == 0) | (60_000 < q)) | ((d == 0) | (120_000 < d))
+    let q = sheet::out_of(60_000, sheet::pivot(cores, k) as u32);
+    let d = sheet::out_of(120_000, sheet::divisor(cores, k));
+    q | d
 }
 
 // The product of a period and a factor or divisor.

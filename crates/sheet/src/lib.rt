@@ -4,6 +4,7 @@ ghost use mathlib.Core.Path.{_≡_};
 ghost use Prim.Native.Nat.{_+_, _*_};
 ghost use lib.ListN.{getD};
 ghost use Rattle.sheet.specs.Refusals.{numberOf};
+ghost use Rattle.sheet.specs.Ranges.{outOf};
 ghost use Rattle.sheet.specs.Numbers.{word, long};
 ghost use Rattle.sheet.specs.Records.{periodAt, budgetAt, coreAt, factorAt, pivotAt, divisorAt};
 
@@ -72,6 +73,13 @@ pub fn number(word: Refusal) -> u8
         Refusal::Foreign => 21,
         Refusal::Start => 22,
     }
+}
+
+// Whether a number is not in the range 1 to `max`.
+pub fn out_of(max: u32, x: u32) -> bool
+    ensures { λ r. ⌜ r ≡ outOf max x ⌝ }
+{
+    (x == 0) | (max < x)
 }
 
 // The byte at a place.

@@ -1,20 +1,24 @@
 use borrow.Author.Needs.{needs}
-use Rattle.sheet.specs.Ranges.{outOf}
 use Rattle.checker.specs.Tests.{badFactor}
 use Rattle.checker.proofs.bad_factor.Statement.{statement}
 use Rattle.checker.proofs.bad_factor.Tie as tie
 use Rattle.checker.proofs.bad_factor.Reads as reads
 use Rattle.checker.proofs.bad_factor.Lts as lts
 use Rattle.sheet.proofs.factor.Reads as factor-reads
+use Rattle.sheet.proofs.out_of.Reads as out-of-reads
 
--- src/lib.rt:91:9
+-- src/lib.rt:84:28
 factor-requires : tie.Need-factor-requires
 factor-requires c κs = search needs
 
--- src/lib.rt:88:1
+-- src/lib.rt:84:5
+out-of-requires : tie.Need-out-of-requires
+out-of-requires c κs = search needs
+
+-- src/lib.rt:81:1
 returns : tie.Need-returns
-unfolding badFactor outOf
+unfolding badFactor
 returns c = cc
 
 pub bad-factor-spec : {M : Type 1} → statement M
-bad-factor-spec = tie.close (tie.spec factor-requires returns)
+bad-factor-spec = tie.close (tie.spec factor-requires out-of-requires returns)

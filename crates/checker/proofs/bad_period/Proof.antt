@@ -1,19 +1,28 @@
 use borrow.Author.Needs.{needs}
-use Rattle.sheet.specs.Ranges.{outOf, badPeriod}
+use Rattle.sheet.specs.Ranges.{badPeriod}
 use Rattle.checker.proofs.bad_period.Statement.{statement}
 use Rattle.checker.proofs.bad_period.Tie as tie
 use Rattle.checker.proofs.bad_period.Reads as reads
 use Rattle.checker.proofs.bad_period.Lts as lts
+use Rattle.sheet.proofs.out_of.Reads as out-of-reads
 use Rattle.sheet.proofs.period.Reads as period-reads
 
--- src/lib.rt:57:9
+-- src/lib.rt:51:27
 period-requires : tie.Need-period-requires
 period-requires c κs = search needs
 
--- src/lib.rt:54:1
+-- src/lib.rt:51:27
+cast-out-of : tie.Need-cast-out-of
+cast-out-of c = search needs
+
+-- src/lib.rt:51:5
+out-of-requires : tie.Need-out-of-requires
+out-of-requires c κs = search needs
+
+-- src/lib.rt:48:1
 returns : tie.Need-returns
-unfolding badPeriod outOf
+unfolding badPeriod
 returns c = cc
 
 pub bad-period-spec : {M : Type 1} → statement M
-bad-period-spec = tie.close (tie.spec period-requires returns)
+bad-period-spec = tie.close (tie.spec period-requires cast-out-of out-of-requires returns)

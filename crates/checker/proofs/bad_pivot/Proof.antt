@@ -1,25 +1,45 @@
 use borrow.Author.Needs.{needs}
-use Rattle.sheet.specs.Ranges.{outOf}
 use Rattle.checker.specs.Tests.{badPivot}
 use Rattle.checker.proofs.bad_pivot.Statement.{statement}
 use Rattle.checker.proofs.bad_pivot.Tie as tie
 use Rattle.checker.proofs.bad_pivot.Reads as reads
 use Rattle.checker.proofs.bad_pivot.Lts as lts
 use Rattle.sheet.proofs.divisor.Reads as divisor-reads
+use Rattle.sheet.proofs.out_of.Reads as out-of-reads
 use Rattle.sheet.proofs.pivot.Reads as pivot-reads
 
--- src/lib.rt:98:9
+-- src/lib.rt:90:35
 pivot-requires : tie.Need-pivot-requires
 pivot-requires c κs = search needs
 
--- src/lib.rt:99:9
+-- src/lib.rt:90:35
+cast-out-of : tie.Need-cast-out-of
+cast-out-of c = search needs
+
+-- src/lib.rt:90:9
+out-of-requires : tie.Need-out-of-requires
+out-of-requires c κs = search needs
+
+-- src/lib.rt:91:36
 divisor-requires : tie.Need-divisor-requires
 divisor-requires c κs = search needs
 
--- src/lib.rt:95:1
+-- src/lib.rt:91:9
+out-of-requires-2 : tie.Need-out-of-requires-2
+out-of-requires-2 c κs = search needs
+
+-- src/lib.rt:87:1
 returns : tie.Need-returns
-unfolding badPivot outOf
+unfolding badPivot
 returns c = cc
 
 pub bad-pivot-spec : {M : Type 1} → statement M
-bad-pivot-spec = tie.close (tie.spec pivot-requires divisor-requires returns)
+bad-pivot-spec =
+    tie.close
+    (tie.spec
+    pivot-requires
+    cast-out-of
+    out-of-requires
+    divisor-requires
+    out-of-requires-2
+    returns)

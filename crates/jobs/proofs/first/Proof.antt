@@ -1,0 +1,57 @@
+use borrow.Author.Needs.{needs}
+use Prim.Native.Nat.{_≤_, _-_}
+use Rattle.jobs.specs.Answers.{broken}
+use Rattle.fit.proofs.Finds.{Left, find-start, find-hit, find-turn, find-end}
+use Rattle.jobs.proofs.first.Statement.{statement}
+use Rattle.jobs.proofs.first.Tie as tie
+use Rattle.jobs.proofs.first.Reads as reads
+use Rattle.jobs.proofs.first.Lts as lts
+use Rattle.jobs.proofs.is_broken.Reads as is-broken-reads
+
+abbrev Inv-loop : tie.InvT-loop
+Inv-loop field jobs n i₀ i = (i ≤ n) × Left (broken field jobs) n i
+
+abbrev μ-loop : tie.MeasureT-loop
+μ-loop field jobs n i₀ i = n - i
+
+-- src/lib.rt:53:5
+loop-holds : tie.Need-loop-holds Inv-loop μ-loop
+loop-holds c = search (find-start, needs)
+
+-- src/lib.rt:54:12
+is-broken-requires : tie.Need-is-broken-requires Inv-loop μ-loop
+is-broken-requires c κs = search needs
+
+-- src/lib.rt:55:13
+returns : tie.Need-returns Inv-loop μ-loop
+returns c = search (find-hit, needs)
+
+-- src/lib.rt:57:9
+add-i : tie.Need-add-i Inv-loop μ-loop
+add-i c = search needs
+
+-- src/lib.rt:53:5
+loop-less : tie.Need-loop-less Inv-loop μ-loop
+loop-less c = search needs
+
+-- src/lib.rt:53:5
+loop-again : tie.Need-loop-again Inv-loop μ-loop
+loop-again c = (search needs, search (find-turn, needs))
+
+-- src/lib.rt:49:1
+returns-2 : tie.Need-returns-2 Inv-loop μ-loop
+returns-2 c = search (find-end, needs)
+
+pub first-spec : {M : Type 1} → statement M
+first-spec =
+    tie.close
+    (tie.spec
+    Inv-loop
+    μ-loop
+    loop-holds
+    is-broken-requires
+    returns
+    add-i
+    loop-less
+    loop-again
+    returns-2)

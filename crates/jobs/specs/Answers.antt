@@ -1,0 +1,13 @@
+-- What the code's own steps answer.
+use Prim.Native.Nat.{ℕ}
+use mathlib.Core.Bool.{Bool}
+use mathlib.Core.List.{List}
+use Rattle.sheet.specs.Ranges.{badPeriod, badBudget}
+use Rattle.jobs.specs.declared.Field.{Field}
+use Rattle.jobs.specs.declared.Field.the-variants.{Period, Budget}
+use Rattle.jobs.specs.Jobs.{jobPeriod, jobBudget}
+
+-- the rule that is tested at a field of an entry
+abbrev pub broken : Field → List ℕ → ℕ → Bool
+broken Period l = badPeriod (jobPeriod l)
+broken Budget l = badBudget (jobPeriod l) (jobBudget l)

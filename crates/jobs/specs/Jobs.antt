@@ -1,0 +1,28 @@
+-- Document 01, "The planner": a job list is "a list of 4-byte entries (p, e, two bytes each; a task's number is its place in the list)".
+use Prim.Native.Nat.{ℕ, _+_, _*_, _/_, _%_}
+use mathlib.Core.Bool.{not, _||_}
+use mathlib.Core.List.{List, [], _∷_}
+use lib.ListN.{length}
+use lib.Dec.{ltb, eqb}
+use Rattle.sheet.specs.Numbers.{word}
+use Rattle.sheet.specs.Ranges.{badPeriod, badBudget}
+use Rattle.sheet.specs.Table.{Row, _at_, whole}
+use Rattle.fit.specs.Lists.{numbers, find}
+
+unfoldable pub jobCount : List ℕ → ℕ
+jobCount l = length l / 4
+
+abbrev pub jobPeriod : List ℕ → ℕ → ℕ
+jobPeriod l i = word l (4 * i)
+
+abbrev pub jobBudget : List ℕ → ℕ → ℕ
+jobBudget l i = word l (4 * i + 2)
+
+-- "5 (length no multiple of 4), 4 (also a limit above 8), 7, 8", each over the whole list before the next
+unfoldable pub listRows : ℕ → List ℕ → List Row
+listRows limit l =
+    5 at whole (not (eqb (length l % 4) 0))
+    ∷ 4 at whole (ltb 64 (jobCount l) || ltb 8 limit)
+    ∷ 7 at find (badPeriod (jobPeriod l)) (numbers 0 (jobCount l))
+    ∷ 8 at find (badBudget (jobPeriod l) (jobBudget l)) (numbers 0 (jobCount l))
+    ∷ []
