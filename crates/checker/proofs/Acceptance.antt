@@ -76,9 +76,11 @@ tasks-kept f e =
     let a = scan-clear 7 _ _ e in
     let b = scan-clear 8 _ _ (a .1) in
     let c = scan-clear 9 _ _ (b .1) in
-    record { period = λ i h. in-range 60000 _ (kept (badPeriod (f .period)) _ (a .0) i h)
-           ; budget = λ i h. in-range (f .period i) _ (kept (badBudget (f .period) (f .budget)) _ (b .0) i h)
-           ; core = λ i h. leb-false _ _ (kept (badCore (f .cores) (f .core)) _ (c .0) i h) }
+    record {
+      period = λ i h. in-range 60000 _ (kept (badPeriod (f .period)) _ (a .0) i h);
+      budget = λ i h. in-range (f .period i) _ (kept (badBudget (f .period) (f .budget)) _ (b .0) i h);
+      core = λ i h. leb-false _ _ (kept (badCore (f .cores) (f .core)) _ (c .0) i h);
+    }
 
 tasks-keep : (f : Figures) → Tasks f → scan (taskRows f) ≡ none
 unfolding taskRows badPeriod badBudget badCore
@@ -122,11 +124,13 @@ cores-kept f e =
     let c = scan-clear 11 _ _ (b .1) in
     let d = scan-clear 12 _ _ (c .1) in
     let ends : (k : ℕ) → k < f .cores → (outOf 60000 (f .pivot k) ≡ false) × (outOf 120000 (f .divisor k) ≡ false) = λ k h. neither _ (outOf 120000 (f .divisor k)) (kept (badPivot (f .pivot) (f .divisor)) _ (core-clear _ (c .0)) k h) in
-    record { not-bare = λ k h. not-bare _ _ k (kept (bare (f .tasks) (f .core)) _ (core-clear _ (a .0)) k h)
-           ; factor = λ i h. in-range 120000 _ (kept (badFactor (f .factor)) _ (b .0) i h)
-           ; pivot = λ k h. in-range 60000 _ (ends k h .0)
-           ; divisor = λ k h. in-range 120000 _ (ends k h .1)
-           ; accelerated = λ i h. ltb-false _ _ (kept (stretchedAt f) _ (d .0) i h) }
+    record {
+      not-bare = λ k h. not-bare _ _ k (kept (bare (f .tasks) (f .core)) _ (core-clear _ (a .0)) k h);
+      factor = λ i h. in-range 120000 _ (kept (badFactor (f .factor)) _ (b .0) i h);
+      pivot = λ k h. in-range 60000 _ (ends k h .0);
+      divisor = λ k h. in-range 120000 _ (ends k h .1);
+      accelerated = λ i h. ltb-false _ _ (kept (stretchedAt f) _ (d .0) i h);
+    }
 
 cores-keep : (f : Figures) → Cores f → scan (coreRows f) ≡ none
 unfolding coreRows badFactor badPivot stretchedAt stretched
@@ -146,8 +150,10 @@ unfolding fitRows chainBreakOn overloadedOn overloaded LoadAtMostOne
 fits-kept f e =
     let a = scan-clear 13 _ _ e in
     let b = scan-clear 14 _ _ (a .1) in
-    record { simply-periodic = λ k h. chain-multiples _ 1 _ (findSome-none (chainBreakOn f) 0 (f .cores) (a .0) k zero-le (rw zero-add h))
-           ; load = λ k h. ltb-false _ _ (kept (overloadedOn f) _ (core-clear _ (b .0)) k h) }
+    record {
+      simply-periodic = λ k h. chain-multiples _ 1 _ (findSome-none (chainBreakOn f) 0 (f .cores) (a .0) k zero-le (rw zero-add h));
+      load = λ k h. ltb-false _ _ (kept (overloadedOn f) _ (core-clear _ (b .0)) k h);
+    }
 
 fits-keep : (f : Figures) → Fits f → scan (fitRows f) ≡ none
 unfolding fitRows chainBreakOn overloadedOn overloaded LoadAtMostOne
@@ -252,11 +258,13 @@ frame-kept s e =
     let m = both (eqb (getD s 0 0) 0x54) _ (not-false _ (whole-clear _ (b .0))) in
     let m′ = both (eqb (getD s 1 0) 0x53) (eqb (getD s 2 0) 0x48) (m .1) in
     let n = neither (ltb 64 (taskCount s)) (ltb 8 (coreCount s)) (whole-clear _ (d .0)) in
-    record { mark = (eqb-true _ _ (m .0), eqb-true _ _ (m′ .0), eqb-true _ _ (m′ .1))
-           ; version = eqb-true _ _ (not-false _ (whole-clear _ (c .0)))
-           ; tasks = ltb-false _ _ (n .0)
-           ; cores = ltb-false _ _ (n .1)
-           ; size = eqb-true _ _ (not-false _ (whole-clear _ (g .0))) }
+    record {
+      mark = (eqb-true _ _ (m .0), eqb-true _ _ (m′ .0), eqb-true _ _ (m′ .1));
+      version = eqb-true _ _ (not-false _ (whole-clear _ (c .0)));
+      tasks = ltb-false _ _ (n .0);
+      cores = ltb-false _ _ (n .1);
+      size = eqb-true _ _ (not-false _ (whole-clear _ (g .0)));
+    }
 
 frame-keep : (s : List ℕ) → Framed s → scan (frameRows s) ≡ none
 unfolding frameRows isMarked
@@ -296,11 +304,17 @@ from-table s e =
     let tasks = tasks-kept f (d .0) in
     let cores = cores-kept f (g .0) in
     let fits = fits-kept f (g .1) in
-    record { mark = frame .mark; version = frame .version; tasks = frame .tasks; cores = frame .cores; size = frame .size
-           ; spare-header = is-zero s 7 (step-none (isSet s) 7 [] (x .0) .0)
-           ; spare-tasks = λ i h. rw (zero-add (10 * i)) at (tasks-spared (drop 8 s) 0 (taskCount s) (offset-clear _ (y .0)) i h)
-           ; spare-cores = cores-spared (drop 8 s) (10 * taskCount s) (coreCount s) (offset-clear _ (z .0))
-           ; fitting = record { period = tasks .period; budget = tasks .budget; core = tasks .core; not-bare = cores .not-bare; factor = cores .factor; pivot = cores .pivot; divisor = cores .divisor; accelerated = cores .accelerated; simply-periodic = fits .simply-periodic; load = fits .load } }
+    record {
+      mark = frame .mark;
+      version = frame .version;
+      tasks = frame .tasks;
+      cores = frame .cores;
+      size = frame .size;
+      spare-header = is-zero s 7 (step-none (isSet s) 7 [] (x .0) .0);
+      spare-tasks = λ i h. rw (zero-add (10 * i)) at (tasks-spared (drop 8 s) 0 (taskCount s) (offset-clear _ (y .0)) i h);
+      spare-cores = cores-spared (drop 8 s) (10 * taskCount s) (coreCount s) (offset-clear _ (z .0));
+      fitting = record { period = tasks .period; budget = tasks .budget; core = tasks .core; not-bare = cores .not-bare; factor = cores .factor; pivot = cores .pivot; divisor = cores .divisor; accelerated = cores .accelerated; simply-periodic = fits .simply-periodic; load = fits .load };
+    }
 
 to-table : (s : List ℕ) → Acceptable s → scan (rules s) ≡ none
 unfolding rules spareRows recordRows find
@@ -317,9 +331,10 @@ to-table s t =
 
 -- The verdict is "accepted with n and c" exactly when the sheet is acceptable and n and c are its counts.
 pub accepted-exactly : (s : List ℕ) (n c : ℕ) → (verdict s ≡ accepted n c) ↔ (Acceptable s × (n ≡ taskCount s) × (c ≡ coreCount s))
-accepted-exactly s n c =
-    ( (λ e. let w = accepted-clear s n c e in (from-table s (w .0), w .1, w .2))
-    , (λ t. clear-accepted s (to-table s (t .0)) ∙ rw (t .1, t .2)) )
+accepted-exactly s n c = (
+  (λ e. let w = accepted-clear s n c e in (from-table s (w .0), w .1, w .2)),
+  (λ t. clear-accepted s (to-table s (t .0)) ∙ rw (t .1, t .2)),
+)
 
 -- what a dispatcher may rely on, for core k of figures that fit
 schedulable : (f : Figures) (k : ℕ) → f .tasks ≤ 64 → k < f .cores → Fitting f → Schedulable (f .period) (f .budget) (f .factor) (f .pivot k) (f .divisor k) (orderOn f k)
@@ -329,17 +344,19 @@ schedulable f k n h g =
     let members : Each (λ i. (i < f .tasks) × (f .core i ≡ k)) l = order-members (f .period) (f .core) k (f .tasks) in
     let positive : Each (λ i. 0 < f .factor i) l = each-of l (λ i m. g .factor i (m .0) .0) members in
     let fast : Each (λ i. f .pivot k * f .factor i ≤ f .period i * f .divisor k) l = each-of l (λ i m. rw (m .1) at (g .accelerated i (m .0))) members in
-    record { count = le-trans (order-count (f .period) (f .core) k (f .tasks)) n
-           ; number = each-of l (λ i m. le-trans (m .0) n) members
-           ; order = order-rising (f .period) (f .core) k (f .tasks)
-           ; period = each-of l (λ i m. g .period i (m .0)) members
-           ; budget = each-of l (λ i m. g .budget i (m .0)) members
-           ; factor = positive
-           ; divisor = g .divisor k h .0
-           ; accelerated = fast
-           ; multiples = multiples-pairs (f .factor) 1 l (g .simply-periodic k h)
-           ; level = level-load (f .budget) (f .factor) (f .divisor k) (f .pivot k) l (g .simply-periodic k h) positive (g .load k h)
-           ; bounds = each-both l (λ i a b. (a, b)) (budget-within (f .budget) (f .factor) (f .divisor k) (f .pivot k) l (g .simply-periodic k h) positive (g .load k h) (g .divisor k h .0)) (each-of l (λ i a. within-period (f .pivot k) (f .divisor k) (f .factor i) (f .period i) a) fast) }
+    record {
+      count = le-trans (order-count (f .period) (f .core) k (f .tasks)) n;
+      number = each-of l (λ i m. le-trans (m .0) n) members;
+      order = order-rising (f .period) (f .core) k (f .tasks);
+      period = each-of l (λ i m. g .period i (m .0)) members;
+      budget = each-of l (λ i m. g .budget i (m .0)) members;
+      factor = positive;
+      divisor = g .divisor k h .0;
+      accelerated = fast;
+      multiples = multiples-pairs (f .factor) 1 l (g .simply-periodic k h);
+      level = level-load (f .budget) (f .factor) (f .divisor k) (f .pivot k) l (g .simply-periodic k h) positive (g .load k h);
+      bounds = each-both l (λ i a b. (a, b)) (budget-within (f .budget) (f .factor) (f .divisor k) (f .pivot k) l (g .simply-periodic k h) positive (g .load k h) (g .divisor k h .0)) (each-of l (λ i a. within-period (f .pivot k) (f .divisor k) (f .factor i) (f .period i) a) fast);
+    }
 
 -- The acceptance contract: all that a dispatcher uses of an accepted sheet.
 pub core-of : (s : List ℕ) (n c k : ℕ) → verdict s ≡ accepted n c → k < c → CoreOf s k

@@ -3,3 +3,4 @@ pub mod Bare
 pub mod Judging
 pub mod Clear
 pub mod Acceptance
+pub mod Cards

@@ -14,7 +14,6 @@ ghost use Rattle.checker.specs.Tests.{isMarked, taskSpares, coreSpares, 
 ghost use Rattle.checker.specs.Rules.{frameRows, spareRows, taskRows, coreRows, fitRows, recordRows, rules, offset};
 ghost use Rattle.checker.specs.Verdict.{verdict, outcome, outcomeOf};
 ghost use Rattle.checker.specs.Answers.{broken, judged, overInRange, InRange, firstOver};
-
 use fit::Chain;
 use sheet::Finding;
 use sheet::Found;

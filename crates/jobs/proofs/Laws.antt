@@ -37,8 +37,10 @@ listed limit l e =
     let c = scan-clear 7 _ _ (b .1) in
     let d = scan-clear 8 _ _ (c .1) in
     let n = neither (ltb 64 (jobCount l)) (ltb 8 limit) (whole-clear _ (b .0)) in
-    record { even = eqb-true _ _ (not-false _ (whole-clear _ (a .0)))
-           ; count = ltb-false _ _ (n .0)
-           ; limit-max = ltb-false _ _ (n .1)
-           ; period = λ i h. in-range 60000 _ (find-none (badPeriod (jobPeriod l)) 0 (jobCount l) (c .0) i zero-le (rw zero-add h))
-           ; budget = λ i h. in-range (jobPeriod l i) _ (find-none (badBudget (jobPeriod l) (jobBudget l)) 0 (jobCount l) (d .0) i zero-le (rw zero-add h)) }
+    record {
+      even = eqb-true _ _ (not-false _ (whole-clear _ (a .0)));
+      count = ltb-false _ _ (n .0);
+      limit-max = ltb-false _ _ (n .1);
+      period = λ i h. in-range 60000 _ (find-none (badPeriod (jobPeriod l)) 0 (jobCount l) (c .0) i zero-le (rw zero-add h));
+      budget = λ i h. in-range (jobPeriod l i) _ (find-none (badBudget (jobPeriod l) (jobBudget l)) 0 (jobCount l) (d .0) i zero-le (rw zero-add h));
+    }

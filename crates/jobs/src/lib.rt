@@ -8,7 +8,6 @@ ghost use Rattle.sheet.specs.Table.{scan, foundOf, findingOf};
 ghost use Rattle.fit.specs.Lists.{numbers, find};
 ghost use Rattle.jobs.specs.Jobs.{jobCount, jobPeriod, jobBudget, listRows};
 ghost use Rattle.jobs.specs.Answers.{broken};
-
 use sheet::Finding;
 use sheet::Found;
 use sheet::Refusal;

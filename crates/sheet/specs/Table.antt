@@ -16,7 +16,6 @@ pub record Refused : Type 0 where
 
 -- a row has a rule's number and the place where the rule is broken first, if it is
 infix 68 _at_
-
 pub data Row : Type 0 where
   _at_ : ℕ → Option ℕ → Row
 
