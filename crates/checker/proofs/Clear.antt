@@ -9,12 +9,13 @@ use lib.Seq.{take-all}
 use Rattle.sheet.specs.declared.Refusal.{Refusal}
 use Rattle.sheet.specs.declared.Finding.{Finding}
 use Rattle.sheet.specs.declared.Finding.the-variants.{Clear, Broken}
+use Rattle.sheet.specs.Refusals.{numberOf}
 use Rattle.sheet.specs.Table.{scan, findingOf}
 use Rattle.sheet.specs.Records.{Figures, taskCount, coreCount, figuresOf}
-use Rattle.sheet.specs.Refusals.{numberOf}
 use Rattle.sheet.proofs.Scans.{part-hit, part-skip}
 use Rattle.checker.specs.Rules.{frameRows, spareRows, taskRows, coreRows, fitRows, recordRows, rules}
-use Rattle.checker.specs.Verdict.{accepted, refused, outcome, verdict}
+use Rattle.checker.specs.declared.Verdict.{Verdict}
+use Rattle.checker.specs.Verdict.{accepted, refused, outcome, outcomeOf, verdict}
 use Rattle.checker.specs.Answers.{InRange}
 use Rattle.checker.proofs.Acceptance.{frame-kept, cores-kept}
 
@@ -71,12 +72,15 @@ module _ (s : List ℕ) (t : Finding) (n c : ℕ) (frame : findingOf t ≡ scan 
         let g′ : findingOf q ≡ scan (recordRows (figuresOf (taskCount s) (coreCount s) (drop 8 s) (drop (10 * taskCount s) (drop 8 s)))) = rw (part (take (length s - 8) (drop 8 s)) a, part s 8, z, en, ec) at g in
         part-skip t (frameRows s) _ _ frame clear (part-skip r (spareRows (taskCount s) (coreCount s) s (drop 8 s)) _ _ spares h g′)
 
--- the two answers
-module _ (s : List ℕ) (r : Finding) (e : findingOf r ≡ scan (rules s)) where
-  pub verdict-refused : (w : Refusal) (p : ℕ) → r ≡ Broken w p → refused (numberOf w) p ≡ verdict s
-  unfolding verdict outcome
-  verdict-refused w p h = rw (← e, h)
+-- the two answers, and the verdict
+pub answer-refused : (f : Finding) (w : Refusal) (p n c : ℕ) → f ≡ Broken w p → refused (numberOf w) p ≡ outcome (findingOf f) n c
+unfolding outcome
+answer-refused f w p n c h = rw h
 
-  pub verdict-accepted : (n c : ℕ) → r ≡ Clear → n ≡ taskCount s → c ≡ coreCount s → accepted n c ≡ verdict s
-  unfolding verdict outcome
-  verdict-accepted n c h en ec = rw (← e, h, en, ec)
+pub answer-accepted : (f : Finding) (n c : ℕ) → f ≡ Clear → accepted n c ≡ outcome (findingOf f) n c
+unfolding outcome
+answer-accepted f n c h = rw h
+
+pub answered : (s : List ℕ) (r : Verdict) (f : Finding) (n c : ℕ) → findingOf f ≡ scan (rules s) → n ≡ taskCount s → c ≡ coreCount s → outcomeOf r ≡ outcome (findingOf f) n c → outcomeOf r ≡ verdict s
+unfolding verdict
+answered s r f n c e en ec h = h ∙ rw (e, en, ec)

@@ -382,16 +382,23 @@ fn all_rules(sheet: &[u8]) -> Finding
     record_rules(records, &records[at..], n, c)
 }
 
+// What the rules found, as an answer.
+fn answer(found: Finding, n: u8, c: u8) -> Verdict
+    ensures { λ r. ⌜ outcomeOf r ≡ outcome (findingOf found) n c ⌝ }
+{
+    match found {
+        Finding::Broken(word, place) => Verdict::Refused { word, place },
+        Finding::Clear => Verdict::Accepted { tasks: n, cores: c },
+    }
+}
+
 // Checks a sheet: any bytes get the answer of document 01.
 pub fn check(sheet: &[u8]) -> Verdict
     ensures { λ r. ⌜ outcomeOf r ≡ verdict (now (sheet .entry)) ⌝ }
 {
-    let found = all_rules(sheet);
-    match found {
-        Finding::Broken(word, place) => Verdict::Refused { word, place },
-        Finding::Clear => Verdict::Accepted {
-            tasks: sheet::byte(sheet, 5),
-            cores: sheet::byte(sheet, 6),
-        },
-    }
+    answer(
+        all_rules(sheet),
+        sheet::byte(sheet, 5),
+        sheet::byte(sheet, 6),
+    )
 }
