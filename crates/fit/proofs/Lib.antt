@@ -4,3 +4,4 @@ pub mod Lists
 pub mod Priority
 pub mod Levels
 pub mod Finds
+pub mod Rings
