@@ -1,0 +1,66 @@
+-- Document 01, "The planner": first fit. p and e are the tasks' periods and budgets by number, and n is how many there are.
+use Prim.Native.Nat.{ℕ, _+_}
+use mathlib.Core.Bool.{Bool, true, false, cond}
+use mathlib.Core.Option.{Option, none, some}
+use mathlib.Core.List.{List, [], _∷_, _++_, map}
+use lib.ListN.{getD, set, take, drop, replicate}
+use lib.Dec.{ltb}
+use Rattle.fit.specs.Lists.{numbers, find}
+use Rattle.fit.specs.Priority.{order}
+use Rattle.figures.specs.Constructions.{Acceleration, at}
+use Rattle.figures.specs.Passing.{figuresOf}
+
+-- "The start is a position in this order; the list is walked once round from there."
+unfoldable pub rotate : ℕ → List ℕ → List ℕ
+rotate start l = drop start l ++ take start l
+
+-- the core of each task by number, 255 for a task that has none yet, and how many cores are open
+pub record Assignment : Type 0 where
+  pub core : List ℕ
+  pub cores : ℕ
+
+unfoldable pub unassigned : Assignment
+unassigned = record { core = replicate 64 255; cores = 0 }
+
+-- the tasks of core k in priority order
+unfoldable pub coreSet : (ℕ → ℕ) → ℕ → List ℕ → ℕ → List ℕ
+coreSet p n core k = order p (at core) k n
+
+-- the figures of core k, if one of the constructions passes
+unfoldable pub coreFigures : (ℕ → ℕ) → (ℕ → ℕ) → ℕ → List ℕ → ℕ → Option Acceleration
+coreFigures p e n core k = figuresOf (map p (coreSet p n core k)) (map e (coreSet p n core k))
+
+unfoldable pub isSome : Option Acceleration → Bool
+isSome none = false
+isSome (some a) = true
+
+-- core k's tasks together with task i pass
+unfoldable pub takes : (ℕ → ℕ) → (ℕ → ℕ) → ℕ → ℕ → List ℕ → ℕ → Bool
+takes p e n i core k = isSome (coreFigures p e n (set core i k) k)
+
+-- the core that takes task i, if any: the first that is open and passes, or a new one "if fewer are open than the limit"
+unfoldable pub chosen : Option ℕ → ℕ → ℕ → Option ℕ
+chosen (some k) limit cores = some k
+chosen none limit cores = cond (ltb cores limit) (some cores) none
+
+unfoldable pub coreFor : (ℕ → ℕ) → (ℕ → ℕ) → ℕ → ℕ → ℕ → Assignment → Option ℕ
+coreFor p e n limit i a = chosen (find (takes p e n i (a .core)) (numbers 0 (a .cores))) limit (a .cores)
+
+-- the assignment with task i on core k, which may be the next new one
+unfoldable pub assign : ℕ → ℕ → Assignment → Assignment
+assign i k a = record { core = set (a .core) i k; cores = cond (ltb k (a .cores)) (a .cores) (a .cores + 1) }
+
+-- every task of the walk has a core, or the first that finds none
+pub data Fit : Type 0 where
+  placed : Assignment → Fit
+  unplaced : ℕ → Fit
+
+-- go on with the core that was found for task i, or end with the task
+unfoldable pub onward : ℕ → (ℕ → Fit) → Option ℕ → Fit
+onward i f none = unplaced i
+onward i f (some k) = f k
+
+-- "each task goes to the lowest-numbered core whose tasks together with it pass; else to a new core ..; else refusal 15 for it"
+unfoldable pub firstFit : (ℕ → ℕ) → (ℕ → ℕ) → ℕ → ℕ → List ℕ → Assignment → Fit
+firstFit p e n limit [] a = placed a
+firstFit p e n limit (i ∷ l) a = onward i (λ k. firstFit p e n limit l (assign i k a)) (coreFor p e n limit i a)

@@ -1,0 +1,3 @@
+pub mod FirstFit
+pub mod Sheet
+pub mod Plan

@@ -1,0 +1,72 @@
+-- Document 01, "The planner": its refusals in order, its answer, and what it leaves in the lent buffer.
+use Prim.Native.Nat.{ℕ}
+use mathlib.Core.Bool.{Bool, not, cond}
+use mathlib.Core.Option.{Option, none, some}
+use mathlib.Core.List.{List, [], _∷_, _++_}
+use lib.ListN.{length, drop}
+use lib.Dec.{leb, ltb, eqb}
+use Rattle.sheet.specs.Refusals.{numberOf}
+use Rattle.sheet.specs.Table.{Refused, Row, _at_, scan, whole}
+use Rattle.fit.specs.declared.By.the-variants.{Ring}
+use Rattle.fit.specs.Ring.{orderBy}
+use Rattle.jobs.specs.Jobs.{jobCount, jobPeriod, jobBudget, listRows}
+use Rattle.planner.specs.FirstFit.{rotate, Assignment, unassigned, Fit, placed, unplaced, firstFit}
+use Rattle.planner.specs.Sheet.{sheetOf}
+use Rattle.planner.specs.declared.Planned.{Planned}
+use Rattle.planner.specs.declared.Planned.the-variants.{Written, Refused as Turned}
+
+-- first fit over the ring of a job list, walked from a start
+unfoldable pub fitOf : List ℕ → ℕ → ℕ → Fit
+fitOf l limit start =
+    firstFit (jobPeriod l) (jobBudget l) (jobCount l) limit (rotate start (orderBy Ring (jobPeriod l) (jobCount l))) unassigned
+
+-- 22: "start not below n, or not 0 when n is 0"
+unfoldable pub badStart : ℕ → ℕ → Bool
+badStart n start = cond (eqb n 0) (not (eqb start 0)) (leb n start)
+
+-- 15: the task that finds no core
+unfoldable pub noFit : Fit → Option ℕ
+noFit (placed a) = none
+noFit (unplaced i) = some i
+
+-- "Order of refusals: 5 .., 4 .., 7, 8, 22, 16, 15."
+unfoldable pub planRows : List ℕ → ℕ → ℕ → ℕ → List Row
+planRows l limit start room =
+    listRows limit l
+    ++ (22 at whole (badStart (jobCount l) start) ∷ 16 at whole (ltb room 712) ∷ 15 at noFit (fitOf l limit start) ∷ [])
+
+-- the sheet of a plan, and its number of cores
+unfoldable pub sheetFor : List ℕ → Fit → List ℕ
+sheetFor l (placed a) = sheetOf (jobPeriod l) (jobBudget l) (jobCount l) a
+sheetFor l (unplaced i) = []
+
+unfoldable pub coresFor : Fit → ℕ
+coresFor (placed a) = a .cores
+coresFor (unplaced i) = 0
+
+-- "The answer gives n, c and the length", or a refusal
+pub data Outcome : Type 0 where
+  written : ℕ → ℕ → ℕ → Outcome
+  refused : ℕ → ℕ → Outcome
+
+unfoldable pub unless : Option Refused → Outcome → Outcome
+unless none x = x
+unless (some r) x = refused (r .number) (r .place)
+
+unfoldable pub planOutcome : List ℕ → ℕ → ℕ → ℕ → Outcome
+planOutcome l limit start room =
+    unless (scan (planRows l limit start room))
+    (written (jobCount l) (coresFor (fitOf l limit start)) (length (sheetFor l (fitOf l limit start))))
+
+-- "Bytes past the sheet's end keep what they held", and a refusal writes no byte
+unfoldable pub laidOver : Option Refused → List ℕ → List ℕ → List ℕ
+laidOver none s out = s ++ drop (length s) out
+laidOver (some r) s out = out
+
+unfoldable pub planOutput : List ℕ → ℕ → ℕ → List ℕ → List ℕ
+planOutput l limit start out = laidOver (scan (planRows l limit start (length out))) (sheetFor l (fitOf l limit start)) out
+
+-- the code's answer as an outcome: a word is its number in document 01
+abbrev pub outcomeOf : Planned → Outcome
+outcomeOf (Written n c s) = written n c s
+outcomeOf (Turned w p) = refused (numberOf w) p

@@ -1,0 +1,55 @@
+-- Document 01, "The sheet, mark TSH, version 1" and "Written form": the bytes of the sheet for an assignment of tasks to cores.
+use Prim.Native.Nat.{ℕ, suc, _*_, _/_, _%_}
+use mathlib.Core.Bool.{cond}
+use mathlib.Core.Option.{Option, none, some}
+use mathlib.Core.List.{List, [], _∷_, _++_}
+use lib.Dec.{eqb}
+use Rattle.fit.specs.Lists.{numbers}
+use Rattle.figures.specs.Constructions.{Acceleration, at}
+use Rattle.planner.specs.FirstFit.{Assignment, coreSet, coreFigures}
+
+-- "Numbers of two or four bytes are unsigned, low byte first."
+unfoldable pub two : ℕ → List ℕ
+two x = x % 256 ∷ x / 256 % 256 ∷ []
+
+unfoldable pub four : ℕ → List ℕ
+four x = two x ++ two (x / 65536)
+
+-- the header, a task record and a core record
+unfoldable pub header : ℕ → ℕ → List ℕ
+header n c = 0x54 ∷ 0x53 ∷ 0x48 ∷ 1 ∷ 0 ∷ n ∷ c ∷ 0 ∷ []
+
+unfoldable pub taskRecord : ℕ → ℕ → ℕ → ℕ → List ℕ
+taskRecord p e k m = two p ++ (two e ++ (k ∷ 0 ∷ four m))
+
+unfoldable pub coreRecord : ℕ → ℕ → List ℕ
+coreRecord q d = two q ++ (0 ∷ 0 ∷ four d)
+
+-- one record for each of a list, one after the other
+unfoldable pub records : (ℕ → List ℕ) → List ℕ → List ℕ
+records f [] = []
+records f (i ∷ l) = f i ++ records f l
+
+-- the figures of core k; zeros where there are none
+unfoldable pub orZeros : Option Acceleration → Acceleration
+orZeros none = record { Q = 0; D = 0; factors = [] }
+orZeros (some a) = a
+
+unfoldable pub figuresFor : (ℕ → ℕ) → (ℕ → ℕ) → ℕ → Assignment → ℕ → Acceleration
+figuresFor p e n a k = orZeros (coreFigures p e n (a .core) k)
+
+-- the place of a task in a list
+unfoldable pub placeOf : ℕ → List ℕ → ℕ
+placeOf i [] = 0
+placeOf i (j ∷ l) = cond (eqb j i) 0 (suc (placeOf i l))
+
+-- the factor of task i: the one at its place on its core
+unfoldable pub factorFor : (ℕ → ℕ) → (ℕ → ℕ) → ℕ → Assignment → ℕ → ℕ
+factorFor p e n a i = at (figuresFor p e n a (at (a .core) i) .factors) (placeOf i (coreSet p n (a .core) (at (a .core) i)))
+
+-- the sheet
+unfoldable pub sheetOf : (ℕ → ℕ) → (ℕ → ℕ) → ℕ → Assignment → List ℕ
+sheetOf p e n a =
+    header n (a .cores)
+    ++ (records (λ i. taskRecord (p i) (e i) (at (a .core) i) (factorFor p e n a i)) (numbers 0 n)
+    ++ records (λ k. coreRecord (figuresFor p e n a k .Q) (figuresFor p e n a k .D)) (numbers 0 (a .cores)))
