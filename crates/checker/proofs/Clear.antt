@@ -12,30 +12,18 @@ use Rattle.sheet.specs.declared.Finding.the-variants.{Clear, Broken}
 use Rattle.sheet.specs.Refusals.{numberOf}
 use Rattle.sheet.specs.Table.{scan, findingOf}
 use Rattle.sheet.specs.Records.{Figures, taskCount, coreCount, figuresOf}
-use Rattle.sheet.proofs.Scans.{part-hit, part-skip}
-use Rattle.checker.specs.Rules.{frameRows, spareRows, taskRows, coreRows, fitRows, recordRows, rules}
+use Rattle.sheet.proofs.Scans.{part-hit, part-skip, scan-clears}
+use Rattle.checker.specs.Rules.{frameRows, spareRows, taskRows, coreRows, recordRows, rules}
 use Rattle.checker.specs.declared.Verdict.{Verdict}
 use Rattle.checker.specs.Verdict.{accepted, refused, outcome, outcomeOf, verdict}
-use Rattle.checker.specs.Answers.{InRange}
+use Rattle.checker.specs.Answers.{InRange, earlyRows}
 use Rattle.checker.proofs.Acceptance.{frame-kept, cores-kept}
 
--- the ways out of rules 7 to 14
-module _ (f : Figures) (r : Finding) (w : Refusal) (p : ℕ) where
-  pub tasks-broken : findingOf r ≡ scan (taskRows f) → r ≡ Broken w p → findingOf r ≡ scan (recordRows f)
-  unfolding recordRows
-  tasks-broken e h = part-hit r (taskRows f) (coreRows f ++ fitRows f) w p e h
-
-  pub cores-broken : (t : Finding) → findingOf t ≡ scan (taskRows f) → t ≡ Clear → findingOf r ≡ scan (coreRows f) → r ≡ Broken w p → findingOf r ≡ scan (recordRows f)
-  unfolding recordRows
-  cores-broken t c q e h = part-skip t (taskRows f) (coreRows f ++ fitRows f) _ c q (part-hit r (coreRows f) (fitRows f) w p e h)
-
-pub fits-found : (f : Figures) (r s t : Finding) → findingOf t ≡ scan (taskRows f) → t ≡ Clear → findingOf s ≡ scan (coreRows f) → s ≡ Clear → findingOf r ≡ scan (fitRows f) → findingOf r ≡ scan (recordRows f)
-unfolding recordRows
-fits-found f r s t c q d z e = part-skip t (taskRows f) (coreRows f ++ fitRows f) _ c q (part-skip s (coreRows f) (fitRows f) _ d z e)
-
-pub clear-range : (f : Figures) (s : Finding) → f .tasks ≤ 64 → findingOf s ≡ scan (coreRows f) → s ≡ Clear → (k : ℕ) → k < f .cores → InRange f k
+-- what rule 14 needs, where rules 7 to 12 are kept
+pub clear-range : (f : Figures) (s : Finding) → f .tasks ≤ 64 → findingOf s ≡ scan (earlyRows f) → s ≡ Clear → (k : ℕ) → k < f .cores → InRange f k
+unfolding earlyRows
 clear-range f s n e q k h =
-    let g = cores-kept f (sym (ap findingOf q) ∙ e) in
+    let g = cores-kept f (scan-clears (taskRows f) (coreRows f) (sym (ap findingOf q) ∙ e) .1) in
     record { count = n; factors = λ i z. g .factor i z .1; divisor = g .divisor k h .1 }
 
 -- a part from a place on is what is left from there

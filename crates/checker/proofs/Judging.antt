@@ -18,10 +18,10 @@ use Rattle.fit.specs.declared.Chain.the-variants.{Whole, Broken}
 use Rattle.fit.specs.Lists.{Each, numbers, find, findSome}
 use Rattle.fit.specs.Priority.{order}
 use Rattle.fit.specs.Fits.{chainBreak, lastFactor, load, overloaded}
-use Rattle.fit.specs.Answers.{Ordered, chainAnswer, chained, loadInRange}
+use Rattle.fit.specs.Answers.{at, Column, Ordered, chainAnswer, chained, loadInRange}
 use Rattle.fit.proofs.Lists.{each-of}
 use Rattle.fit.proofs.Finds.{front}
-use Rattle.fit.proofs.Priority.{order-members, order-count}
+use Rattle.fit.proofs.Priority.{order-members, order-count, order-ext}
 use Rattle.fit.proofs.Levels.{load-last}
 use Rattle.checker.specs.declared.Judged.{Judged}
 use Rattle.checker.specs.declared.Judged.the-variants.{Chained, Unchained}
@@ -41,12 +41,12 @@ answer-whole (some j) L m e = absurd (let z : _≡_ {A = ℕ} 0 1 = cc in omega 
 pub ordered-length : (l : List ℕ) (o : Order) → Ordered l o → o .count ≡ length (take (o .count) (o .tasks))
 ordered-length l o s = simp length-take (omega (arith, s .count, s .size))
 
-module _ (f : Figures) (k : ℕ) (o : Order) (chain : Chain) (r : InRange f k) (s : Ordered (order (f .period) (f .core) k (min (f .tasks) 64)) o) (h : chain ≡ chained (f .factor) (take (o .count) (o .tasks))) where
+module _ (f : Figures) (k : ℕ) (periods : List ℕ) (o : Order) (chain : Chain) (r : InRange f k) (column : Column (f .period) (min (f .tasks) 64) periods) (s : Ordered (order (at periods) (f .core) k (min (f .tasks) 64)) o) (h : chain ≡ chained (f .factor) (take (o .count) (o .tasks))) where
   listed : take (o .count) (o .tasks) ≡ orderOn f k
   unfolding orderOn
   listed =
       let n : min (f .tasks) 64 ≡ f .tasks = omega (arith, r .count) in
-      s .tasks ∙ ap (order (f .period) (f .core) k) n
+      s .tasks ∙ order-ext (at periods) (f .period) (f .core) k (min (f .tasks) 64) (column .below) ∙ ap (order (f .period) (f .core) k) n
 
   pub judge-broken : (i : ℕ) → chain ≡ Broken i → Unchained i ≡ judged (chainBreakOn f k) (overloadedOn f k)
   unfolding judged chained chainBreakOn

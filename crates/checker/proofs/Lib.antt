@@ -4,3 +4,4 @@ pub mod Judging
 pub mod Clear
 pub mod Acceptance
 pub mod Cards
+pub mod Sound

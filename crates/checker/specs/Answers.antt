@@ -1,9 +1,10 @@
 -- What the code's own steps answer.
 use Prim.Native.Nat.{ℕ, _*_, _≤_, _<_}
-use mathlib.Core.List.{List}
+use mathlib.Core.List.{List, _++_}
+use Rattle.sheet.specs.Table.{Row}
 use lib.Dec.{ltb, eqb}
 use Rattle.fit.specs.Answers.{loadInRange}
-use mathlib.Core.Bool.{Bool, cond}
+use mathlib.Core.Bool.{Bool, cond, not, _||_}
 use mathlib.Core.Option.{Option, none, some}
 use Rattle.sheet.specs.Ranges.{badPeriod, badBudget}
 use Rattle.sheet.specs.Records.{Figures}
@@ -11,6 +12,7 @@ use Rattle.checker.specs.declared.Test.{Test}
 use Rattle.checker.specs.declared.Test.the-variants.{Period, Budget, Core, Bare, Factor, Pivot, Stretch}
 use Rattle.checker.specs.declared.Judged.{Judged}
 use Rattle.checker.specs.declared.Judged.the-variants.{Chained, Unchained}
+use Rattle.checker.specs.Rules.{taskRows, coreRows}
 use Rattle.checker.specs.Tests.{badCore, bare, badFactor, badPivot, stretchedAt}
 
 -- the rule that a test stands for
@@ -31,6 +33,14 @@ judged (some i) over = Unchained i
 -- the first core that is over, where 255 stands for none
 unfoldable pub firstOver : ℕ → ℕ → Bool → ℕ
 firstOver found k over = cond over (cond (eqb found 255) k found) found
+
+-- the rules at one task, and rules 7 to 12 of the table
+unfoldable pub soundAt : Figures → ℕ → Bool
+soundAt f i =
+    not ((badPeriod (f .period) i || badBudget (f .period) (f .budget) i || (badCore (f .cores) (f .core) i || badFactor (f .factor) i)) || stretchedAt f i)
+
+unfoldable pub earlyRows : Figures → List Row
+earlyRows f = taskRows f ++ coreRows f
 
 -- load above one, by the load that the code adds up
 unfoldable pub overInRange : (ℕ → ℕ) → (ℕ → ℕ) → ℕ → ℕ → ℕ → List ℕ → Bool

@@ -1,7 +1,7 @@
 // The checker: rules 1 to 14 of document 01 over any bytes.
 ghost use mathlib.Core.Path.{_≡_};
-ghost use mathlib.Core.Bool.{not, _||_};
-ghost use Prim.Native.Nat.{ℕ, _+_, _*_, _<_, _≤_};
+ghost use mathlib.Core.Bool.{true, not, _||_};
+ghost use Prim.Native.Nat.{ℕ, _+_, _*_, _<_, _≤_, min};
 ghost use lib.ListN.{length, drop, getD};
 ghost use lib.Dec.{ltb, eqb};
 ghost use mathlib.Core.List.{[], _∷_};
@@ -9,11 +9,12 @@ ghost use Rattle.sheet.specs.Table.{_at_, scan, foundOf, findingOf};
 ghost use Rattle.sheet.specs.Ranges.{badPeriod, badBudget};
 ghost use Rattle.sheet.specs.Numbers.{word};
 ghost use Rattle.sheet.specs.Records.{taskCount, coreCount, periodAt, budgetAt, coreAt, factorAt, pivotAt, divisorAt, figuresOf, figuresIn};
+ghost use Rattle.fit.specs.Answers.{Column};
 ghost use Rattle.fit.specs.Lists.{numbers, find, findSome};
 ghost use Rattle.checker.specs.Tests.{isMarked, taskSpares, coreSpares, isSet, badCore, isOn, bare, badFactor, badPivot, stretchedAt, chainBreakOn, overloadedOn};
 ghost use Rattle.checker.specs.Rules.{frameRows, spareRows, taskRows, coreRows, fitRows, recordRows, rules, offset};
 ghost use Rattle.checker.specs.Verdict.{verdict, outcome, outcomeOf};
-ghost use Rattle.checker.specs.Answers.{broken, judged, overInRange, InRange, firstOver};
+ghost use Rattle.checker.specs.Answers.{broken, judged, overInRange, InRange, firstOver, soundAt, earlyRows};
 use fit::Chain;
 use sheet::Finding;
 use sheet::Found;
@@ -294,11 +295,11 @@ fn is_over(tasks: &[u8], cores: &[u8], list: &[u8], k: u8, last: u32) -> bool
 }
 
 // Rules 13 and 14 at core k.
-fn judge(tasks: &[u8], cores: &[u8], n: u8, c: u8, k: u8) -> Judged
-    requires { ⌜ InRange (figuresOf n c (now tasks) (now cores)) k ⌝ }
+fn judge(periods: &[u16], tasks: &[u8], cores: &[u8], n: u8, c: u8, k: u8) -> Judged
+    requires { ⌜ InRange (figuresOf n c (now tasks) (now cores)) k × Column (periodAt (now tasks)) (min n 64) (now periods) ⌝ }
     ensures { λ r. ⌜ r ≡ judged (chainBreakOn (figuresOf n c (now (tasks .entry)) (now (cores .entry))) k) (overloadedOn (figuresOf n c (now (tasks .entry)) (now (cores .entry))) k) ⌝ }
 {
-    let order = fit::in_order(tasks, n, k);
+    let order = fit::on_core(periods, tasks, n, k);
     let count = order.count;
     let list = order.tasks;
     let chain = fit::chain_of(tasks, &list[..count]);
@@ -327,10 +328,11 @@ fn fit_rules(tasks: &[u8], cores: &[u8], n: u8, c: u8) -> Finding
     requires { ⌜ ((k : ℕ) → k < c → InRange (figuresOf n c (now tasks) (now cores)) k) ⌝ }
     ensures { λ r. ⌜ findingOf r ≡ scan (fitRows (figuresOf n c (now (tasks .entry)) (now (cores .entry)))) ⌝ }
 {
+    let periods = fit::periods_of(tasks, n);
     let mut found = 255;
     let mut k = 0;
     while k < c {
-        let judged = judge(tasks, cores, n, c, k);
+        let judged = judge(&periods, tasks, cores, n, c, k);
         match judged {
             Judged::Unchained(i) => {
                 return Finding::Broken(Refusal::Chain, i as u16);
@@ -347,16 +349,65 @@ fn fit_rules(tasks: &[u8], cores: &[u8], n: u8, c: u8) -> Finding
     Finding::Broken(Refusal::Overload, 64 + (found as u16))
 }
 
+// Whether rules 7, 8, 9, 11 and 12 are all kept at task i.
+fn is_sound(tasks: &[u8], cores: &[u8], n: u8, c: u8, i: u8) -> bool
+    ensures { λ r. ⌜ r ≡ soundAt (figuresOf n c (now (tasks .entry)) (now (cores .entry))) i ⌝ }
+{
+    let ranges = bad_period(tasks, i) | bad_budget(tasks, i);
+    let figures = bad_core(tasks, c, i) | bad_factor(tasks, i);
+    !((ranges | figures) | is_stretched(tasks, cores, n, c, i))
+}
+
+// Whether they are kept at every task.
+fn all_sound(tasks: &[u8], cores: &[u8], n: u8, c: u8) -> bool
+    ensures { λ r. ⌜ (r ≡ true → (i : ℕ) → i < n → soundAt (figuresOf n c (now (tasks .entry)) (now (cores .entry))) i ≡ true) ⌝ }
+{
+    let mut i = 0;
+    while i < n {
+        if !is_sound(tasks, cores, n, c, i) {
+            return false;
+        }
+        i += 1;
+    }
+    true
+}
+
+// Rules 10 and 11 at the cores, where the tasks keep their rules.
+fn bare_rules(tasks: &[u8], cores: &[u8], n: u8, c: u8) -> Finding
+    requires { ⌜ ((i : ℕ) → i < n → soundAt (figuresOf n c (now tasks) (now cores)) i ≡ true) ⌝ }
+    ensures { λ r. ⌜ findingOf r ≡ scan (coreRows (figuresOf n c (now (tasks .entry)) (now (cores .entry)))) ⌝ }
+{
+    let bare = first(Test::Bare, tasks, cores, n, c, c);
+    if let Found::At(k) = bare {
+        return Finding::Broken(Refusal::Bare, 64 + (k as u16));
+    }
+    let pivot = first(Test::Pivot, tasks, cores, n, c, c);
+    if let Found::At(k) = pivot {
+        return Finding::Broken(Refusal::Factor, 64 + (k as u16));
+    }
+    Finding::Clear
+}
+
+// Rules 7 to 12. Most sheets keep all rules at their tasks: one pass tells.
+fn early_rules(tasks: &[u8], cores: &[u8], n: u8, c: u8) -> Finding
+    ensures { λ r. ⌜ findingOf r ≡ scan (earlyRows (figuresOf n c (now (tasks .entry)) (now (cores .entry)))) ⌝ }
+{
+    if all_sound(tasks, cores, n, c) {
+        return bare_rules(tasks, cores, n, c);
+    }
+    let found = task_rules(tasks, cores, n, c);
+    if let Finding::Broken(_, _) = found {
+        return found;
+    }
+    core_rules(tasks, cores, n, c)
+}
+
 // Rules 7 to 14.
 fn record_rules(tasks: &[u8], cores: &[u8], n: u8, c: u8) -> Finding
     requires { ⌜ n ≤ 64 ⌝ }
     ensures { λ r. ⌜ findingOf r ≡ scan (recordRows (figuresOf n c (now (tasks .entry)) (now (cores .entry)))) ⌝ }
 {
-    let found = task_rules(tasks, cores, n, c);
-    if let Finding::Broken(_, _) = found {
-        return found;
-    }
-    let found = core_rules(tasks, cores, n, c);
+    let found = early_rules(tasks, cores, n, c);
     if let Finding::Broken(_, _) = found {
         return found;
     }

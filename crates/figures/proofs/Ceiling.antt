@@ -1,8 +1,8 @@
 -- A quotient rounded up is the least number that reaches.
 -- Assumes nothing.
 use Prim.Native.Nat.{ℕ, zero, suc, _+_, _-_, _*_, _/_, _≤_, _<_}
-use mathlib.Core.Path.{_≡_, refl, sym, ap, _∙_}
-use native.Mathlib.Nat.{mul-one, mul-suc, mul-comm, mul-assoc, mul-right-comm, mul-zero, mul-add, add-mul, one-mul, lt-mul-div-succ, mul-div-le, div-lt-iff-lt-mul, mul-le-mul-right, le-of-mul-le-mul-right, mul-pos, le-antisymm}
+use mathlib.Core.Path.{_≡_}
+use native.Mathlib.Nat.{mul-one, mul-suc, mul-comm, mul-right-comm, mul-zero, mul-add, add-mul, one-mul, lt-mul-div-succ, mul-div-le, div-lt-iff-lt-mul, mul-le-mul-right, le-of-mul-le-mul-right, mul-pos, le-antisymm}
 use native.Mathlib.Omega.{arith}
 use Rattle.figures.specs.Constructions.{ceiling}
 

@@ -3,12 +3,12 @@
 use Prim.Native.Nat.{ℕ, zero, suc, _+_, _*_, _^_, _≤_, _<_}
 use mathlib.Core.Path.{_≡_, refl, sym, ap, _∙_}
 use mathlib.Core.Bool.{Bool, true, false, cond}
-use native.Mathlib.Nat.{add-zero, mul-one, one-mul, mul-assoc, pow-zero, pow-suc, pow-le-pow-right, mul-le-mul, mul-le-mul-left, mul-le-mul-right, le-antisymm, le-trans, le-refl, le-of-eq, one-le-pow, not-le-of-lt, lt-of-le-of-lt, lt-of-lt-of-le}
+use native.Mathlib.Nat.{mul-one, one-mul, pow-zero, pow-suc, pow-le-pow-right, mul-le-mul-left, mul-le-mul-right, le-antisymm, le-trans, one-le-pow, not-le-of-lt}
 use native.Mathlib.Decide.{decLe}
 use native.Mathlib.Omega.{arith}
 use borrow.Author.Tests.{leb-true, leb-false}
 use lib.Dec.{leb}
-use Rattle.figures.specs.Constructions.{Power, least, leastPower, largest, largestPower}
+use Rattle.figures.specs.Constructions.{least, leastPower, largest, largestPower}
 
 -- m is the least power of b with q ≤ p × m
 pub record Least (b q p m : ℕ) : Type 0 where

@@ -1,13 +1,13 @@
 -- What both constructions give: every task accelerated, factors in a chain from 1, and figures in range.
 -- Assumes nothing.
 use Prim.Native.Nat.{ℕ, zero, suc, _*_, _≤_, _<_}
-use mathlib.Core.Path.{_≡_, refl, sym, ap, _∙_}
+use mathlib.Core.Path.{_≡_, refl, ap, _∙_}
 use mathlib.Core.Bool.{Bool, true, false, _&&_, false≢true}
 use mathlib.Core.List.{List, [], _∷_}
-use native.Mathlib.Nat.{mul-comm, mul-assoc, mul-left-comm, mul-le-mul, mul-le-mul-left, mul-lt-mul-of-pos-left, lt-of-mul-lt-mul-left, lt-of-le-of-lt, le-trans, lt-of-lt-of-le, le-refl}
+use native.Mathlib.Nat.{mul-comm, mul-left-comm, mul-le-mul-left, mul-lt-mul-of-pos-left, lt-of-mul-lt-mul-left, le-trans, lt-of-lt-of-le, le-refl}
 use native.Mathlib.Omega.{arith}
 use borrow.Author.Tests.{leb-true}
-use lib.ListN.{length, getD}
+use lib.ListN.{length}
 use lib.Dec.{leb}
 use Rattle.fit.specs.Fits.{Multiple}
 use Rattle.figures.specs.Constructions.{Acceleration, at}
@@ -58,7 +58,7 @@ Factors Q D d [] (m ∷ ms) = ⊥
 Factors Q D d (p ∷ ps) [] = ⊥
 Factors Q D d (p ∷ ps) (m ∷ ms) = Factor Q D d p m × Factors Q D m ps ms
 
--- the figures of tasks with these periods, by a construction whose accelerated periods are above 1 / b of the periods
+-- figures of tasks with these periods: every task accelerated, the factors a chain from 1, the divisor below b × Q
 pub record Sound (b : ℕ) (ps : List ℕ) (a : Acceleration) : Type 0 where
   pub pivot : (1 ≤ a .Q) × (a .Q ≤ 60000)
   pub divisor : (1 ≤ a .D) × (a .D < b * a .Q)

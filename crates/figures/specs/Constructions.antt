@@ -1,7 +1,7 @@
 -- Document 01, "The planner": Sr and DCT. A construction takes the periods of a core's tasks in priority order and the place of its pivot.
 use Prim.Native.Nat.{ℕ, zero, suc, _+_, _-_, _*_, _/_, _^_}
 use mathlib.Core.Path.{_≡_}
-use mathlib.Core.Bool.{Bool, cond}
+use mathlib.Core.Bool.{cond}
 use mathlib.Core.List.{List, [], _∷_, _++_, map}
 use lib.ListN.{getD, take, drop}
 use lib.Dec.{leb}
@@ -38,8 +38,8 @@ largest b q x (suc n) m = let more = largest b q x n (m * b) in cond (leb (q * (
 unfoldable pub largestPower : ℕ → ℕ → ℕ → ℕ
 largestPower b q x = largest b q x x 1
 
--- Sr on base b: "Q is the pivot's period. Each task has the largest power, whose exponent may be negative, with Q × power ≤ p as its multiplier."
--- A multiplier is written M / D with one D for all: the least power with Q ≤ p × D at the first task, whose multiplier is 1 / D.
+-- "Sr (base 2): Q is the pivot's period. Each task has the largest power of two, whose exponent may be negative, with Q × power ≤ p as its multiplier."
+-- Here on any base b. A multiplier is written M / D, with one D for all: the least power with Q ≤ p × D at the first task, whose multiplier is 1 / D.
 unfoldable pub sr : ℕ → List ℕ → ℕ → Acceleration
 sr b ps i =
     let q = at ps i in

@@ -22,10 +22,9 @@ first es (a ∷ l) = let later = first es l in cond (passes es a) (some a) later
 unfoldable pub eachPivot : (List ℕ → ℕ → Acceleration) → List ℕ → List Acceleration
 eachPivot construction ps = map (construction ps) (numbers 0 (length ps))
 
--- "A set passes if one of these has load at most one, tried in this order: Sr with each task as pivot by priority, then DCT likewise.
--- The first that passes gives the core's figures."
-unfoldable pub firstPassing : List ℕ → List ℕ → Option Acceleration
-firstPassing ps es = first es (eachPivot (sr 2) ps ++ eachPivot dct ps)
+-- "tried in this order: Sr with each task as pivot by priority, then DCT likewise"; Sr is on base 2
+unfoldable pub trials : List ℕ → List Acceleration
+trials ps = eachPivot (sr 2) ps ++ eachPivot dct ps
 
 -- periods in priority order: none below the one before it, which is a before the first, and none above 60,000
 unfoldable pub rising : ℕ → List ℕ → Bool
@@ -36,6 +35,7 @@ rising a (p ∷ ps) = leb a p && leb p 60000 && rising p ps
 unfoldable pub taskSet : List ℕ → List ℕ → Bool
 taskSet ps es = leb (length ps) 64 && eqb (length ps) (length es) && rising 1 ps
 
--- the figures of a core with these tasks; anything but a set of tasks does not pass
-unfoldable pub figuresOf : List ℕ → List ℕ → Option Acceleration
-figuresOf ps es = cond (taskSet ps es) (firstPassing ps es) none
+-- "A set passes if one of these has load at most one .. The first that passes gives the core's figures."
+-- Anything but a set of tasks does not pass.
+unfoldable pub firstPassing : List ℕ → List ℕ → Option Acceleration
+firstPassing ps es = cond (taskSet ps es) (first es (trials ps)) none

@@ -10,16 +10,16 @@ pub fn round(session: &mut Session, rng: &mut Rng) {
         let bytes = random_bytes(rng, length);
         sheet(session, rng, &bytes);
     }
-    let makers: [(fn(&mut Rng) -> Vec<u8>, usize); 3] =
-        [(planned_sheet, 8), (handmade_sheet, 24), (likely_sheet, 24)];
-    for (make, count) in makers {
-        for _ in 0..count {
-            let bytes = make(rng);
-            sheet(session, rng, &bytes);
-            for kind in 0..SHEET_DAMAGES {
-                let damaged = damaged_sheet(rng, &bytes, kind);
-                sheet(session, rng, &damaged);
-            }
+    for turn in 0..48 {
+        let bytes = match turn % 6 {
+            0 => planned_sheet(rng),
+            1..4 => handmade_sheet(rng),
+            _ => likely_sheet(rng),
+        };
+        sheet(session, rng, &bytes);
+        for kind in 0..SHEET_DAMAGES {
+            let damaged = damaged_sheet(rng, &bytes, kind);
+            sheet(session, rng, &damaged);
         }
     }
 }

@@ -1,6 +1,7 @@
 //! The listing.
 
-use crate::session::{hex, same, same_bytes, Lent, Session};
+use crate::lent::{same_bytes, Lent};
+use crate::session::{hex, same, Session};
 use inputs::Rng;
 
 pub const REFUSALS: [u8; 1] = [16];
@@ -9,7 +10,7 @@ pub const REFUSALS: [u8; 1] = [16];
 pub fn list(session: &mut Session, rng: &mut Rng, sheet: &[u8]) {
     let small = rng.range(0, 8191);
     let room = rng.pick(&[8192, 8192, 8192, 8193, 9000, 8191, small]) as usize;
-    let mut ours = Lent::new(room, rng.next());
+    let mut ours = Lent::new(room, rng.byte());
     let mut theirs = ours.clone();
     let reference = reference::list_into(sheet, ours.lend());
     let library = binding::list_into(sheet, theirs.lend());

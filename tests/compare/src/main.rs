@@ -4,6 +4,8 @@
 mod checking;
 #[cfg(feature = "dispatch")]
 mod dispatching;
+#[cfg(any(feature = "plan", feature = "list"))]
+mod lent;
 #[cfg(feature = "list")]
 mod listing;
 #[cfg(feature = "dispatch")]

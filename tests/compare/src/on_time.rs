@@ -39,28 +39,21 @@ pub fn jobs_on_time(log: &[Entry], tasks: &[Promise]) -> Result<u64, String> {
     let mut jobs = 0;
     for (at, entry) in log.iter().enumerate() {
         let (before, after) = (&log[..at], &log[at + 1..]);
-        let named = |number: u64| tasks.iter().find(|task| task.number == number);
-        match entry.call {
-            Call::Tick => {}
-            Call::Release(number) => match named(number) {
-                Some(task) => {
-                    early_when_young(entry, before, task)?;
-                    jobs += ended_in_time(entry, after, task)? as u64;
-                }
-                None => unlisted(entry)?,
-            },
-            Call::Finish(number) if named(number).is_none() => unlisted(entry)?,
-            Call::Finish(_) => {}
+        let number = match entry.call {
+            Call::Tick if entry.refusal == 0 => continue,
+            Call::Tick => return Err(format!("{entry:?}: a tick refused")),
+            Call::Release(number) | Call::Finish(number) => number,
+        };
+        let task = tasks.iter().find(|task| task.number == number);
+        if task.is_none() != (entry.refusal == 17) {
+            return Err(format!("{entry:?}: Unlisted, for {task:?}"));
+        }
+        if let (Call::Release(_), Some(task)) = (entry.call, task) {
+            early_when_young(entry, before, task)?;
+            jobs += ended_in_time(entry, after, task)? as u64;
         }
     }
     Ok(jobs)
-}
-
-fn unlisted(entry: &Entry) -> Result<(), String> {
-    match entry.refusal {
-        17 => Ok(()),
-        _ => Err(format!("{entry:?}: not 17 for a task that is not there")),
-    }
 }
 
 /// 18 exactly when fewer than p ticks stand since the last accepted release;
@@ -107,4 +100,81 @@ fn ended_in_time(entry: &Entry, after: &[Entry], task: &Promise) -> Result<bool,
         }
     }
     Ok(false)
+}
+
+#[cfg(test)]
+mod tests {
+    use super::*;
+    use Call::*;
+
+    const TASKS: [Promise; 1] = [Promise {
+        number: 3,
+        period: 4,
+        budget: 2,
+        within: Some(3),
+    }];
+
+    /// Releases and finishes with their refusals, ticks with their tasks.
+    fn log(list: &[(Call, u8)]) -> Vec<Entry> {
+        let entry = |&(call, answer): &(Call, u8)| match call {
+            Tick => Entry {
+                call,
+                refusal: 0,
+                task: answer,
+            },
+            _ => Entry {
+                call,
+                refusal: answer,
+                task: 0,
+            },
+        };
+        list.iter().map(entry).collect()
+    }
+
+    fn jobs(list: &[(Call, u8)]) -> Option<u64> {
+        jobs_on_time(&log(list), &TASKS).ok()
+    }
+
+    #[test]
+    fn ends_by_its_last_tick() {
+        let release = (Release(3), 0);
+        assert_eq!(jobs(&[release, (Tick, 3), (Tick, 255), (Tick, 3)]), Some(1));
+        assert_eq!(jobs(&[release, (Tick, 3), (Tick, 255), (Tick, 255)]), None);
+        let finish = (Finish(3), 0);
+        assert_eq!(
+            jobs(&[release, (Tick, 3), finish, (Tick, 255), (Tick, 255)]),
+            Some(1)
+        );
+        let refused = (Finish(3), 20);
+        assert_eq!(
+            jobs(&[release, (Tick, 3), refused, (Tick, 255), (Tick, 255)]),
+            None
+        );
+    }
+
+    #[test]
+    fn owes_nothing_before() {
+        assert_eq!(jobs(&[]), Some(0));
+        assert_eq!(jobs(&[(Release(3), 0), (Tick, 255), (Tick, 255)]), Some(0));
+    }
+
+    #[test]
+    fn early_by_ticks() {
+        let first = [(Release(3), 0), (Tick, 3), (Tick, 3), (Tick, 255)];
+        let then = |more: &[(Call, u8)]| jobs(&[&first[..], more].concat());
+        assert_eq!(then(&[(Release(3), 18)]), Some(1));
+        assert_eq!(then(&[(Release(3), 0)]), None);
+        assert_eq!(then(&[(Tick, 255), (Release(3), 0)]), Some(1));
+        assert_eq!(then(&[(Tick, 255), (Release(3), 18)]), None);
+        assert_eq!(then(&[(Tick, 255), (Release(3), 19)]), None);
+        assert_eq!(jobs(&[(Release(3), 18)]), None);
+    }
+
+    #[test]
+    fn unlisted_only_off_the_core() {
+        assert_eq!(jobs(&[(Release(2), 17), (Finish(64), 17)]), Some(0));
+        assert_eq!(jobs(&[(Release(2), 0)]), None);
+        assert_eq!(jobs(&[(Finish(2), 20)]), None);
+        assert_eq!(jobs(&[(Release(3), 17)]), None);
+    }
 }

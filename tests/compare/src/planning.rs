@@ -1,7 +1,8 @@
 //! The planner.
 
 use crate::checking::check;
-use crate::session::{hex, same, same_bytes, Lent, Session};
+use crate::lent::{same_bytes, Lent};
+use crate::session::{hex, same, Session};
 use inputs::*;
 
 pub const REFUSALS: [u8; 7] = [4, 5, 7, 8, 15, 16, 22];
@@ -46,7 +47,7 @@ pub fn round(session: &mut Session, rng: &mut Rng) {
 
 /// Compare the planner; what it writes goes to the checker, which accepts it.
 fn plan(session: &mut Session, rng: &mut Rng, list: &[u8], limit: u64, start: u64, room: usize) {
-    let mut ours = Lent::new(room, rng.next());
+    let mut ours = Lent::new(room, rng.byte());
     let mut theirs = ours.clone();
     let reference = reference::plan(list, limit, start, ours.lend());
     let library = binding::plan(list, limit, start, theirs.lend());

@@ -19,7 +19,7 @@ pub fn any_number(rng: &mut Rng, end: u64) -> u64 {
         1 => end + 1,
         2 => low + rng.pick(&[256, 65_536, 1 << 32, 1 << 63]),
         3 => rng.pick(&[255, 65_535, u32::MAX as u64, u64::MAX]),
-        4 => rng.next(),
+        4 => rng.word(),
         _ => low,
     }
 }
@@ -31,10 +31,13 @@ pub fn random_call(rng: &mut Rng, core: &Core, style: u64) -> Call {
         let tasks = core.used().iter().filter(test);
         tasks.map(|task| task.number as u64).collect()
     };
-    let ready = numbers_of(|task| task.age == task.period);
+    let ready = numbers_of(|task| task.age == task.period && task.left == 0);
+    let late = numbers_of(|task| task.age == task.period && task.left > 0);
     let pending = numbers_of(|task| task.left > 0);
     if !ready.is_empty() && rng.once_in(style) {
         Call::Release(rng.pick(&ready))
+    } else if !late.is_empty() && rng.once_in(10) {
+        Call::Release(rng.pick(&late))
     } else if rng.once_in(50) {
         Call::Release(any_number(rng, 64))
     } else if style > 1 && rng.once_in(60) {

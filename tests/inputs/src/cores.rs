@@ -14,7 +14,8 @@ pub fn any_core(rng: &mut Rng, kind: usize) -> Core {
 }
 
 fn sound_core(rng: &mut Rng) -> Core {
-    let count = rng.range(0, 64) as usize;
+    let any = rng.range(0, 64) as usize;
+    let count = rng.pick(&[any, any, 64]);
     let full = start_list(&job_list(rng, count)).core;
     let mut core = Core::EMPTY;
     let thin = rng.once_in(2);
@@ -42,23 +43,25 @@ fn sound_core(rng: &mut Rng) -> Core {
 
 fn random_task(rng: &mut Rng) -> Task {
     Task {
-        period: rng.next() as u16,
-        budget: rng.next() as u16,
-        age: rng.next() as u16,
-        left: rng.next() as u16,
-        number: rng.next() as u8,
+        period: rng.word() as u16,
+        budget: rng.word() as u16,
+        age: rng.word() as u16,
+        left: rng.word() as u16,
+        number: rng.byte(),
     }
 }
 
 fn damage(rng: &mut Rng, core: &mut Core, kind: usize) {
     let count = core.count as usize;
     let numbers = core.tasks.map(|task| task.number);
-    let at = rng.index(count.max(1));
+    // often the last task, where a longer period keeps the order
+    let (last, any) = (count.saturating_sub(1), rng.index(count.max(1)));
+    let at = rng.pick(&[any, last]);
     let other = rng.index(count.max(1));
     let task = &mut core.tasks[at];
     match kind {
         0 => {}
-        1 => core.count = rng.pick(&[64, 65, 255, 256, 1 << 32, u64::MAX]),
+        1 => core.count = rng.pick(&[64, 65, 256, (1 << 32) + core.count, u64::MAX]),
         2 => core.count = rng.below(66),
         3 => task.period = rng.pick(&[0, 1, 60_000, 60_001, 65_535]),
         4 => task.budget = rng.pick(&[0, 1, task.period, task.period.saturating_add(1)]),

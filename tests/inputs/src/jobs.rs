@@ -50,7 +50,7 @@ pub fn damaged_jobs(rng: &mut Rng, list: &[u8], kind: usize) -> Vec<u8> {
         0 => list.truncate(rng.index(list.len() + 1)),
         1 => {
             for _ in 0..rng.range(1, 300) {
-                list.push(rng.next() as u8);
+                list.push(rng.byte());
             }
         }
         2 if entries > 0 => {
@@ -73,7 +73,7 @@ pub fn damaged_jobs(rng: &mut Rng, list: &[u8], kind: usize) -> Vec<u8> {
         }
         _ if !list.is_empty() => {
             let at = rng.index(list.len());
-            list[at] = rng.next() as u8;
+            list[at] = rng.byte();
         }
         _ => {}
     }

@@ -8,7 +8,7 @@ const LARGEST_FACTOR: u64 = 120_000;
 
 /// Random bytes; every second time they begin like a sheet.
 pub fn random_bytes(rng: &mut Rng, length: usize) -> Vec<u8> {
-    let mut bytes: Vec<u8> = (0..length).map(|_| rng.next() as u8).collect();
+    let mut bytes: Vec<u8> = (0..length).map(|_| rng.byte()).collect();
     if length >= 8 && rng.once_in(2) {
         bytes[..5].copy_from_slice(b"TSH\x01\x00");
         bytes[5] &= 127;
@@ -65,14 +65,17 @@ fn handmade_core(rng: &mut Rng, count: u64) -> (CoreRecord, Vec<TaskRecord>) {
         3 => rng.range(1, LARGEST_FACTOR),
         _ => LARGEST_FACTOR,
     };
-    let small_enough = |m: u64| m <= LARGEST_FACTOR && pivot * m <= LONGEST_PERIOD * divisor;
 
     // a chain of factors, the first accelerated period at least 1
     let least = divisor.div_ceil(pivot);
-    let mut factor = least * rng.pick(&[1, 1, 2, 7]) + rng.below(3);
-    if !small_enough(factor) {
-        factor = least;
-    }
+    let most = (LONGEST_PERIOD * divisor / pivot).min(LARGEST_FACTOR);
+    let mut factor = match rng.below(4) {
+        0 => least,
+        1 => least + rng.below(3),
+        2 => rng.range(least, most),
+        _ => most,
+    };
+    factor = factor.min(most);
     let mut period = 1;
     let mut tasks = Vec::new();
     for _ in 0..count {
@@ -95,7 +98,7 @@ fn handmade_core(rng: &mut Rng, count: u64) -> (CoreRecord, Vec<TaskRecord>) {
             6 => rng.range(2, 7),
             _ => rng.range(1, LARGEST_FACTOR / factor),
         };
-        if small_enough(factor * step) {
+        if factor * step <= most {
             factor *= step;
         }
     }
@@ -173,7 +176,7 @@ pub fn likely_sheet(rng: &mut Rng) -> Vec<u8> {
     .write()
 }
 
-pub const SHEET_DAMAGES: usize = 24;
+pub const SHEET_DAMAGES: usize = 25;
 
 /// A sheet with one kind of damage, which may leave it in order. A sheet
 /// without the field in question gets a random byte.
@@ -181,7 +184,7 @@ pub fn damaged_sheet(rng: &mut Rng, sheet: &[u8], kind: usize) -> Vec<u8> {
     let mut bytes = sheet.to_vec();
     if !damage(rng, &mut bytes, kind) && !bytes.is_empty() {
         let at = rng.index(bytes.len());
-        bytes[at] = rng.next() as u8;
+        bytes[at] = rng.byte();
     }
     bytes
 }
@@ -318,10 +321,11 @@ fn damage(rng: &mut Rng, bytes: &mut Vec<u8>, kind: usize) -> bool {
                 put32(bytes, core + 4, near(rng, divisor));
             }
         }
-        // several
+        // several at once: of any field, or of the records only
         _ => {
-            for _ in 0..rng.range(2, 3) {
-                let kind = rng.index(SHEET_DAMAGES - 1);
+            let first_kind = if kind == 23 { 0 } else { 9 };
+            for _ in 0..rng.range(2, 4) {
+                let kind = rng.range(first_kind, 22) as usize;
                 damage(rng, bytes, kind);
             }
         }

@@ -31,8 +31,7 @@ pub fn accept(bytes: &[u8]) -> Outcome<Sheet> {
     let sheet = Sheet::read(bytes, n, c);
     let (tasks, cores) = (&sheet.tasks, &sheet.cores);
     let first_task = |broken: &dyn Fn(usize) -> bool| (0..n).find(|&i| broken(i));
-    let first_core =
-        |broken: &dyn Fn(usize) -> bool| (0..c).find(|&k| broken(k)).map(|k| core_place(k));
+    let first_core = |broken: &dyn Fn(usize) -> bool| (0..c).find(|&k| broken(k)).map(core_place);
     let period = |p: u64| (1..=LONGEST_PERIOD).contains(&p);
     let factor = |m: u64| (1..=LARGEST_FACTOR).contains(&m);
 

@@ -12,7 +12,7 @@ pub struct Job {
 /// The jobs of a list, or refusal 5, 4, 7 or 8. Where there is no core limit
 /// the caller gives 0.
 pub fn read(list: &[u8], limit: u64) -> Outcome<Vec<Job>> {
-    refuse_if(5, list.len() % 4 != 0)?;
+    refuse_if(5, !list.len().is_multiple_of(4))?;
     refuse_if(4, list.len() / 4 > MOST_TASKS || limit > MOST_CORES as u64)?;
     let jobs: Vec<Job> = list
         .chunks(4)

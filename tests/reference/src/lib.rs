@@ -17,7 +17,7 @@ pub use dispatcher::{finish, release, start_list, start_sheet, tick};
 pub use fraction::Fraction;
 pub use jobs::Job;
 pub use listing::{list, list_into, LISTING_ROOM};
-pub use planner::{dct, plan, ring_order, sr};
+pub use planner::{dct, plan, ring_order, sr, Construction};
 pub use sheet::{CoreRecord, Sheet, TaskRecord, LONGEST_SHEET};
 
 /// Document 01's ranges.

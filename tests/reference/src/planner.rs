@@ -107,8 +107,7 @@ fn figures(jobs: &[Job], set: &[usize]) -> Option<Figures> {
     let mut set = set.to_vec();
     set.sort_by_key(|&i| (jobs[i].period, i));
     let periods: Vec<u64> = set.iter().map(|&i| jobs[i].period).collect();
-    let constructions: [fn(&[u64], usize) -> Vec<Fraction>; 2] = [sr, dct];
-    for construction in constructions {
+    for construction in [sr, dct] as [Construction; 2] {
         for pivot in 0..set.len() {
             let accelerated = construction(&periods, pivot);
             let (core, factors) = written_form(periods[pivot], &accelerated);
@@ -134,6 +133,9 @@ fn written_form(pivot: u64, accelerated: &[Fraction]) -> (CoreRecord, Vec<u64>) 
         .collect();
     (CoreRecord { pivot, divisor }, factors)
 }
+
+/// From periods in priority order and a pivot to accelerated periods.
+pub type Construction = fn(&[u64], usize) -> Vec<Fraction>;
 
 /// Sr: the accelerated periods are Q times the largest power of two, whose
 /// exponent may be negative, with Q * power <= p.

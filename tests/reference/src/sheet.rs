@@ -132,7 +132,7 @@ impl Sheet {
 /// sum of e * D * (L / M) over Q * L.
 pub fn load(tasks: &[(u64, u64)], core: CoreRecord) -> Fraction {
     let last = tasks.last().expect("no core is bare").1 as u128;
-    let demand = tasks
+    let demand: u128 = tasks
         .iter()
         .map(|&(budget, factor)| {
             Fraction::whole(last)

@@ -51,7 +51,7 @@ fn planned(set: u16) -> bool {
 
 /// Whether some pivot of a construction brings the load to one or below: the
 /// sum of e * (last / period) is at most the last accelerated period.
-fn passes(construction: fn(&[u64], usize) -> Vec<Fraction>, set: u16) -> bool {
+fn passes(construction: Construction, set: u16) -> bool {
     let periods: Vec<u64> = group(set).iter().map(|task| task.0 as u64).collect();
     (0..periods.len()).any(|pivot| {
         let accelerated = construction(&periods, pivot);

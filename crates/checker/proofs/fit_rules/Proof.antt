@@ -1,8 +1,9 @@
 use borrow.Author.Needs.{needs}
-use Prim.Native.Nat.{_≤_, _<_, _-_}
-use Rattle.sheet.specs.Records.{figuresOf}
-use Rattle.checker.specs.Rules.{fitRows}
+use Prim.Native.Nat.{_≤_, _<_, _-_, min}
+use Rattle.sheet.specs.Records.{periodAt, figuresOf}
+use Rattle.fit.specs.Answers.{Column}
 use Rattle.sheet.proofs.Scans.{scan-skip, scan-hit, scan-none, core-at, core-none}
+use Rattle.checker.specs.Rules.{fitRows}
 use Rattle.checker.proofs.Judging.{Passed, fit-start, fit-broken, fit-turn, fit-end, fit-clear, fit-over}
 use Rattle.checker.proofs.fit_rules.Statement.{statement}
 use Rattle.checker.proofs.fit_rules.Tie as tie
@@ -10,68 +11,77 @@ use Rattle.checker.proofs.fit_rules.Reads as reads
 use Rattle.checker.proofs.fit_rules.Lts as lts
 use Rattle.checker.proofs.first_over.Reads as first-over-reads
 use Rattle.checker.proofs.judge.Reads as judge-reads
+use Rattle.fit.proofs.periods_of.Reads as periods-of-reads
 
 abbrev Inv-loop : tie.InvT-loop
-Inv-loop tasks cores n c found₀ k₀ found k = (k ≤ c) × (found < 256) × Passed (figuresOf n c tasks cores) c k found
+Inv-loop tasks cores n c periods found₀ k₀ found k = (k ≤ c) × (found < 256) × Column (periodAt tasks) (min n 64) periods × Passed (figuresOf n c tasks cores) c k found
 
 abbrev μ-loop : tie.MeasureT-loop
-μ-loop tasks cores n c found₀ k₀ found k = c - k
+μ-loop tasks cores n c periods found₀ k₀ found k = c - k
 
--- src/lib.rt:335:5
+-- src/lib.rt:331:19
+periods-of-requires : tie.Need-periods-of-requires Inv-loop μ-loop
+periods-of-requires c κs = search needs
+
+-- src/lib.rt:334:5
 loop-holds : tie.Need-loop-holds Inv-loop μ-loop
-loop-holds c = search (fit-start, needs)
+loop-holds c = (search needs, search needs, search needs, search (fit-start, needs))
 
--- src/lib.rt:336:13
+-- src/lib.rt:335:28
+slice-aggregate-judge : tie.Need-slice-aggregate-judge Inv-loop μ-loop
+slice-aggregate-judge c = search needs
+
+-- src/lib.rt:335:13
 judge-requires : tie.Need-judge-requires Inv-loop μ-loop
-judge-requires c κs = c .before .before .before .before .pre _ (c .loop-test .taken)
+judge-requires c κs = (c .before .before .before .before .before .before .pre _ (c .before .loop-test .taken), c .before .before .before .periods-of .ensures)
 
--- src/lib.rt:338:31
+-- src/lib.rt:337:31
 enum-known-judged : tie.Need-enum-known-judged Inv-loop μ-loop
 enum-known-judged c = search needs
 
--- src/lib.rt:339:56
-cast-t12 : tie.Need-cast-t12 Inv-loop μ-loop
-cast-t12 c = search needs
+-- src/lib.rt:338:56
+cast-t16 : tie.Need-cast-t16 Inv-loop μ-loop
+cast-t16 c = search needs
 
--- src/lib.rt:339:17
+-- src/lib.rt:338:17
 returns : tie.Need-returns Inv-loop μ-loop
 unfolding fitRows
 returns c = search (scan-hit, fit-broken, needs)
 
--- src/lib.rt:341:31
+-- src/lib.rt:340:31
 enum-known-judged-2 : tie.Need-enum-known-judged-2 Inv-loop μ-loop
 enum-known-judged-2 c = search needs
 
--- src/lib.rt:342:17
+-- src/lib.rt:341:17
 first-over-requires : tie.Need-first-over-requires Inv-loop μ-loop
 first-over-requires c κs = search needs
 
--- src/lib.rt:343:17
+-- src/lib.rt:342:17
 add-k : tie.Need-add-k Inv-loop μ-loop
 add-k c = search needs
 
--- src/lib.rt:335:5
+-- src/lib.rt:334:5
 loop-less : tie.Need-loop-less Inv-loop μ-loop
 loop-less c = search needs
 
--- src/lib.rt:335:5
+-- src/lib.rt:334:5
 loop-again : tie.Need-loop-again Inv-loop μ-loop
-loop-again c = (search needs, search needs, search (fit-turn, needs))
+loop-again c = (search needs, search needs, search needs, search (fit-turn, needs))
 
--- src/lib.rt:348:9
+-- src/lib.rt:347:9
 returns-2 : tie.Need-returns-2 Inv-loop μ-loop
 unfolding fitRows
 returns-2 c = search (scan-skip, scan-none, fit-end, fit-clear, core-none)
 
--- src/lib.rt:350:46
-cast-t15 : tie.Need-cast-t15 Inv-loop μ-loop
-cast-t15 c = search needs
+-- src/lib.rt:349:46
+cast-t19 : tie.Need-cast-t19 Inv-loop μ-loop
+cast-t19 c = search needs
 
--- src/lib.rt:350:40
-add-t16 : tie.Need-add-t16 Inv-loop μ-loop
-add-t16 c = search needs
+-- src/lib.rt:349:40
+add-t20 : tie.Need-add-t20 Inv-loop μ-loop
+add-t20 c = search needs
 
--- src/lib.rt:329:1
+-- src/lib.rt:327:1
 returns-3 : tie.Need-returns-3 Inv-loop μ-loop
 unfolding fitRows
 returns-3 c = search (scan-skip, scan-hit, fit-end, fit-over, core-at)
@@ -82,10 +92,12 @@ fit-rules-spec =
     (tie.spec
     Inv-loop
     μ-loop
+    periods-of-requires
     loop-holds
+    slice-aggregate-judge
     judge-requires
     enum-known-judged
-    cast-t12
+    cast-t16
     returns
     enum-known-judged-2
     first-over-requires
@@ -93,6 +105,6 @@ fit-rules-spec =
     loop-less
     loop-again
     returns-2
-    cast-t15
-    add-t16
+    cast-t19
+    add-t20
     returns-3)

@@ -3,16 +3,16 @@
 use Prim.Native.Nat.{ℕ, zero, suc, _+_, _-_, _*_, _^_, _≤_, _<_, zero-le}
 use mathlib.Core.Path.{_≡_, refl, sym, ap, _∙_}
 use mathlib.Core.List.{List, [], _∷_, map}
-use native.Mathlib.Nat.{zero-add, mul-one, one-mul, mul-comm, mul-assoc, mul-left-comm, mul-right-comm, pow-zero, pow-suc, mul-le-mul, mul-le-mul-left, mul-le-mul-right, mul-lt-mul-of-pos-left, mul-lt-mul-of-pos-right, lt-of-mul-lt-mul-right, le-of-mul-le-mul-right, le-trans, le-refl, not-le-of-lt, lt-of-le-of-lt, lt-of-lt-of-le, add-sub-of-le, le-of-lt}
-use native.Mathlib.Decide.{decLe, decLt}
+use native.Mathlib.Nat.{mul-one, one-mul, mul-comm, mul-assoc, mul-right-comm, pow-zero, pow-suc, mul-le-mul, mul-le-mul-left, mul-le-mul-right, mul-lt-mul-of-pos-left, le-of-mul-le-mul-right, le-trans, le-refl, add-sub-of-le}
+use native.Mathlib.Decide.{decLe}
 use native.Mathlib.Omega.{arith}
-use lib.ListN.{length, getD, List·getD-map}
+use lib.ListN.{length}
 use lib.Pow.{pow-add}
 use Rattle.fit.specs.Fits.{Multiple}
-use Rattle.figures.specs.Constructions.{Acceleration, at, Power, leastPower, largestPower, sr}
+use Rattle.figures.specs.Constructions.{at, Power, leastPower, largestPower, sr}
 use Rattle.figures.proofs.Powers.{Least, Largest, least-power, largest-power, power-positive, power-mono}
 use Rattle.figures.proofs.Lists.{at-map}
-use Rattle.figures.proofs.Sound.{Rising, rising-at, rising-pair, Factor, Factors, Sound}
+use Rattle.figures.proofs.Sound.{Rising, rising-at, rising-pair, Factors, Sound}
 
 -- M / D is the largest power of b, whose exponent may be negative, with Q × power ≤ p: both are powers, Q × M / D ≤ p,
 -- and a power x / y with Q × x / y ≤ p is at most M / D
@@ -35,9 +35,10 @@ module _ (b : ℕ) (two : 2 ≤ b) where
   sr-factors q D a j (p ∷ ps) pos r h =
       let more : q * b ^ j ≤ p * D = le-trans h (mul-le-mul-right D (r .0)) in
       let least : q * 1 ≤ q * b ^ j = mul-le-mul-left q (power-positive b two j) in
-      let m : Largest b q (p * D) (largestPower b q (p * D)) = largest-power b two q (p * D) pos (omega (arith, mul-one q)) in
-      (record { accelerated = m .fits; multiple = rw (m .power) (power-multiple j (m .exponent) (m .largest j more)); positive = rw (m .power) (power-positive b two (m .exponent)) },
-       rw (m .power) (sr-factors q D p (m .exponent) ps pos (r .2) (rw (← m .power) (m .fits))))
+      let m : Largest b q (p * D) (largestPower b q (p * D)) = largest-power b two q (p * D) pos (omega (arith, mul-one q)) in (
+        record { accelerated = m .fits; multiple = rw (m .power) (power-multiple j (m .exponent) (m .largest j more)); positive = rw (m .power) (power-positive b two (m .exponent)) },
+        rw (m .power) (sr-factors q D p (m .exponent) ps pos (r .2) (rw (← m .power) (m .fits))),
+      )
 
   -- below the least power nothing reaches
   least-before : (q p m k : ℕ) (h : Least b q p m) → h .exponent ≡ suc k → p * b ^ k < q
@@ -93,17 +94,23 @@ module _ (b : ℕ) (two : 2 ≤ b) where
       let d : Least b q p (leastPower b q p) = least-power b two q p (r .0) in
       let D : ℕ = leastPower b q p in
       let start : q * b ^ 0 ≤ p * D = rw (pow-zero b, mul-one q) (d .reaches) in
-      record { pivot = (pos, high)
-             ; divisor = (rw (d .power) (power-positive b two (d .exponent)), divisor-below q p D pos (r .0) d)
-             ; one = first-one q p D pos (r .0) low d
-             ; factors = rw (pow-zero b) at (sr-factors q D p 0 (p ∷ ps) pos (le-refl p, r .1, r .2) start) }
+      record {
+        pivot = (pos, high);
+        divisor = (rw (d .power) (power-positive b two (d .exponent)), divisor-below q p D pos (r .0) d);
+        one = first-one q p D pos (r .0) low d;
+        factors = rw (pow-zero b) at (sr-factors q D p 0 (p ∷ ps) pos (le-refl p, r .1, r .2) start);
+      }
   sr-sound [] i r h = absurd (omega arith)
 
   multiplier : (q p x D M : ℕ) → Least b q x D → Largest b q (p * D) M → Multiplier b q p M D
   unfolding Power
   multiplier q p x D M d m =
-      record { factor = (m .exponent, m .power); divisor = (d .exponent, d .power); fits = m .fits
-             ; largest = λ j k z. rw (← d .power, ← m .power) at (by j k z (decLe (j + d .exponent) (m .exponent + k))) }
+      record {
+        factor = (m .exponent, m .power);
+        divisor = (d .exponent, d .power);
+        fits = m .fits;
+        largest = λ j k z. rw (← d .power, ← m .power) at (by j k z (decLe (j + d .exponent) (m .exponent + k)));
+      }
     where
       by : (j k : ℕ) → q * b ^ j ≤ p * b ^ k → Dec (j + d .exponent ≤ m .exponent + k) → b ^ j * b ^ d .exponent ≤ b ^ m .exponent * b ^ k
       by j k z (yes t) = rw (← pow-add b j (d .exponent), ← pow-add b (m .exponent) k) (power-mono b two t)

@@ -1,0 +1,104 @@
+//! Times the verified library against plain Rust on the same inputs, both in
+//! this run and both built for release. Argument: seed.
+
+use bench::{plain, workload};
+use inputs::Rng;
+use std::hint::black_box;
+use std::time::Instant;
+
+const PASSES: usize = 9;
+
+fn main() {
+    let seed = std::env::args().nth(1).map_or(1, |argument| {
+        argument.parse().expect("the argument is a number: seed")
+    });
+    let mut rng = Rng::new(seed);
+    check(&mut rng);
+    #[cfg(feature = "plan")]
+    plan(&mut rng);
+    #[cfg(feature = "dispatch")]
+    tick();
+}
+
+fn check(rng: &mut Rng) {
+    let sheets = workload::sheets(rng, 100_000);
+    let mut accepted = 0;
+    for sheet in &sheets {
+        let answer = plain::check(sheet);
+        assert_eq!(answer, binding::check(sheet), "they differ on a sheet");
+        accepted += (answer.refusal == 0) as usize;
+    }
+    let bytes: usize = sheets.iter().map(Vec::len).sum();
+    println!(
+        "check of {} sheets, {accepted} accepted, {} bytes on average:",
+        sheets.len(),
+        bytes / sheets.len()
+    );
+    let run = |call: fn(&[u8]) -> reference::CheckAnswer| {
+        for sheet in &sheets {
+            black_box(call(black_box(sheet)));
+        }
+    };
+    compare(sheets.len(), || run(plain::check), || run(binding::check));
+}
+
+#[cfg(feature = "plan")]
+fn plan(rng: &mut Rng) {
+    let lists = workload::full_lists(rng, 50);
+    let mut out = [0; 712];
+    for list in &lists {
+        let mut other = out;
+        let answer = plain::plan(list, 8, 0, &mut out);
+        assert_eq!(answer, binding::plan(list, 8, 0, &mut other));
+        assert_eq!(out, other, "they differ on a plan");
+    }
+    println!("plan of 64 tasks on 8 cores, {} lists:", lists.len());
+    type Plan = fn(&[u8], u64, u64, &mut [u8]) -> reference::PlanAnswer;
+    let run = |call: Plan| {
+        let mut out = [0; 712];
+        for list in &lists {
+            black_box(call(black_box(list), 8, 0, &mut out));
+        }
+    };
+    compare(lists.len(), || run(plain::plan), || run(binding::plan));
+}
+
+#[cfg(feature = "dispatch")]
+fn tick() {
+    const TICKS: usize = 50_000;
+    let first = workload::last_pending();
+    let run = |call: fn(reference::Core) -> reference::TickAnswer| {
+        let mut core = first;
+        for _ in 0..TICKS {
+            let answer = call(black_box(core));
+            assert_eq!(answer.task, 63);
+            core = answer.core;
+        }
+        core
+    };
+    assert_eq!(
+        run(plain::tick),
+        run(binding::tick),
+        "they differ on a tick"
+    );
+    println!("tick on a core of 64 tasks, only the last pending:");
+    compare(TICKS, || run(plain::tick), || run(binding::tick));
+}
+
+/// Print the best time of each side for one call, and their ratio.
+fn compare<T>(calls: usize, plain: impl Fn() -> T, library: impl Fn() -> T) {
+    let nanoseconds = |run: &dyn Fn() -> T| {
+        let begin = Instant::now();
+        black_box(run());
+        begin.elapsed().as_nanos() as f64 / calls as f64
+    };
+    let (mut best_plain, mut best_library) = (f64::MAX, f64::MAX);
+    for _ in 0..PASSES {
+        best_plain = best_plain.min(nanoseconds(&plain));
+        best_library = best_library.min(nanoseconds(&library));
+    }
+    println!(
+        "  plain {best_plain:.1} ns, library {best_library:.1} ns, ratio {:.2}",
+        best_library / best_plain
+    );
+}

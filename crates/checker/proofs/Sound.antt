@@ -1,0 +1,100 @@
+-- One pass over the tasks: where every task keeps rules 7, 8, 9, 11 and 12, those rows of the table are clear.
+-- Assumes nothing.
+use Prim.Native.Nat.{ℕ, _+_, _≤_, _<_}
+use mathlib.Core.Path.{_≡_, refl, sym, ap, _∙_}
+use mathlib.Core.Bool.{Bool, true, false, not, _||_, false≢true}
+use mathlib.Core.Option.{none}
+use mathlib.Core.List.{List, [], _∷_, _++_, append-assoc}
+use native.Mathlib.Nat.{zero-add}
+use native.Mathlib.Decide.{ℕ-discrete}
+use native.Mathlib.Omega.{arith}
+use borrow.Author.Tests.{not-true, not-false}
+use lib.Arith.{lt-of-le-ne}
+use Rattle.sheet.specs.declared.Refusal.{Refusal}
+use Rattle.sheet.specs.declared.Finding.{Finding}
+use Rattle.sheet.specs.declared.Finding.the-variants.{Clear, Broken}
+use Rattle.sheet.specs.Ranges.{badPeriod, badBudget}
+use Rattle.sheet.specs.Records.{Figures}
+use Rattle.sheet.specs.Table.{scan, findingOf}
+use Rattle.sheet.proofs.Ranges.{neither}
+use Rattle.sheet.proofs.Scans.{scan-none, scan-skip, scan-second, part-hit, part-skip}
+use Rattle.fit.specs.Lists.{numbers, find}
+use Rattle.fit.proofs.Finds.{none-find}
+use Rattle.checker.specs.Tests.{badCore, badFactor, stretchedAt}
+use Rattle.checker.specs.Rules.{taskRows, coreRows, fitRows, recordRows}
+use Rattle.checker.specs.Answers.{soundAt, earlyRows}
+
+-- the loop: every task below i is sound
+pub record Below (f : Figures) (i : ℕ) : Type 0 where
+  pub sound : (j : ℕ) → j < i → soundAt f j ≡ true
+
+pub below-start : (f : Figures) → Below f 0
+below-start f = record { sound = λ j h. absurd (omega arith) }
+
+pub below-turn : (f : Figures) (i : ℕ) (r : Bool) → Below f i → r ≡ soundAt f i → not r ≡ false → Below f (i + 1)
+below-turn f i r b e h = record { sound = λ j q. by j q (ℕ-discrete j i) }
+  where
+    by : (j : ℕ) → j < i + 1 → Dec (j ≡ i) → soundAt f j ≡ true
+    by j q (yes z) = rw z (sym e ∙ not-false r h)
+    by j q (no z) = b .sound j (lt-of-le-ne (omega arith) z)
+
+pub below-end : (f : Figures) (n i : ℕ) → n ≤ i → Below f i → (j : ℕ) → j < n → soundAt f j ≡ true
+below-end f n i h b j q = b .sound j (omega arith)
+
+-- the rules at a sound task
+record Parts (f : Figures) (i : ℕ) : Type 0 where
+  period : badPeriod (f .period) i ≡ false
+  budget : badBudget (f .period) (f .budget) i ≡ false
+  core : badCore (f .cores) (f .core) i ≡ false
+  factor : badFactor (f .factor) i ≡ false
+  stretch : stretchedAt f i ≡ false
+
+parts : (f : Figures) (i : ℕ) → soundAt f i ≡ true → Parts f i
+unfolding soundAt
+parts f i e =
+    let a = neither (badPeriod (f .period) i || badBudget (f .period) (f .budget) i || (badCore (f .cores) (f .core) i || badFactor (f .factor) i)) (stretchedAt f i) (not-true _ e) in
+    let b = neither (badPeriod (f .period) i || badBudget (f .period) (f .budget) i) (badCore (f .cores) (f .core) i || badFactor (f .factor) i) (a .0) in
+    let c = neither (badPeriod (f .period) i) (badBudget (f .period) (f .budget) i) (b .0) in
+    let d = neither (badCore (f .cores) (f .core) i) (badFactor (f .factor) i) (b .1) in
+    record { period = c .0; budget = c .1; core = d .0; factor = d .1; stretch = a .1 }
+
+module _ (f : Figures) (all : (i : ℕ) → i < f .tasks → soundAt f i ≡ true) where
+  clear : (q : ℕ → Bool) → ((i : ℕ) → Parts f i → q i ≡ false) → none ≡ find q (numbers 0 (f .tasks))
+  clear q h = sym (none-find q 0 (f .tasks) (λ i a b. h i (parts f i (all i (rw zero-add at b)))))
+
+  pub factors-clear : none ≡ find (badFactor (f .factor)) (numbers 0 (f .tasks))
+  factors-clear = clear (badFactor (f .factor)) (λ i p. p .factor)
+
+  pub stretch-clear : none ≡ find (stretchedAt f) (numbers 0 (f .tasks))
+  stretch-clear = clear (stretchedAt f) (λ i p. p .stretch)
+
+  tasks-clear : none ≡ scan (taskRows f)
+  unfolding taskRows
+  tasks-clear =
+      scan-skip 7 _ _ none (clear (badPeriod (f .period)) (λ i p. p .period))
+      (scan-skip 8 _ _ none (clear (badBudget (f .period) (f .budget)) (λ i p. p .budget))
+      (scan-skip 9 _ _ none (clear (badCore (f .cores) (f .core)) (λ i p. p .core)) scan-none))
+
+  pub early-fast : (r : Finding) → findingOf r ≡ scan (coreRows f) → findingOf r ≡ scan (earlyRows f)
+  unfolding earlyRows
+  early-fast r e = scan-second (taskRows f) (coreRows f) _ tasks-clear e
+
+-- the ways out of rules 7 to 12, one group after the other
+pub early-broken : (f : Figures) (r : Finding) (w : Refusal) (p : ℕ) → findingOf r ≡ scan (taskRows f) → r ≡ Broken w p → findingOf r ≡ scan (earlyRows f)
+unfolding earlyRows
+early-broken f r w p e h = part-hit r (taskRows f) (coreRows f) w p e h
+
+pub early-slow : (f : Figures) (t r : Finding) → findingOf t ≡ scan (taskRows f) → t ≡ Clear → findingOf r ≡ scan (coreRows f) → findingOf r ≡ scan (earlyRows f)
+unfolding earlyRows
+early-slow f t r e h q = part-skip t (taskRows f) (coreRows f) _ e h q
+
+-- rules 7 to 14 are the early rows and then the last two
+all-rows : (f : Figures) → earlyRows f ++ fitRows f ≡ recordRows f
+unfolding earlyRows recordRows
+all-rows f = append-assoc (taskRows f) (coreRows f) (fitRows f)
+
+pub records-broken : (f : Figures) (r : Finding) (w : Refusal) (p : ℕ) → findingOf r ≡ scan (earlyRows f) → r ≡ Broken w p → findingOf r ≡ scan (recordRows f)
+records-broken f r w p e h = part-hit r (earlyRows f) (fitRows f) w p e h ∙ ap scan (all-rows f)
+
+pub records-fit : (f : Figures) (t r : Finding) → findingOf t ≡ scan (earlyRows f) → t ≡ Clear → findingOf r ≡ scan (fitRows f) → findingOf r ≡ scan (recordRows f)
+records-fit f t r e h q = part-skip t (earlyRows f) (fitRows f) _ e h q ∙ ap scan (all-rows f)

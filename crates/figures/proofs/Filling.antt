@@ -1,0 +1,54 @@
+-- An array of 64 places that is filled from the front with a list.
+-- Assumes nothing.
+use Prim.Native.Nat.{ℕ, zero, suc, _+_, _-_, _≤_, _<_}
+use mathlib.Core.Path.{_≡_, refl, sym, ap, _∙_}
+use mathlib.Core.List.{List, [], _∷_, _++_}
+use native.Mathlib.Nat.{add-sub-of-le}
+use native.Mathlib.Numerals.{add-one}
+use native.Mathlib.Omega.{arith}
+use lib.ListN.{length, take, set, replicate, length-append, length-replicate, length-set}
+use lib.Seq.{length-take-le, take-suc, take-all, set-at, append-snoc}
+use Rattle.figures.specs.Constructions.{at}
+use Rattle.figures.specs.Answers.{padded}
+
+-- the first i of a list, then zeros
+pub record Filled (l : List ℕ) (i : ℕ) (array : List ℕ) : Type 0 where
+  pub size : length array ≡ 64
+  pub same : array ≡ padded (take i l)
+
+pub filled-start : (l : List ℕ) → Filled l 0 (replicate 64 0)
+unfolding padded
+filled-start l = record { size = refl; same = refl }
+
+pub filled-turn : (l array : List ℕ) (i v : ℕ) → length l ≤ 64 → i < length l → v ≡ at l i → Filled l i array → Filled l (i + 1) (set array i v)
+unfolding padded
+filled-turn l array i v small h e f =
+    let long : length (take i l) ≡ i = length-take-le i l (omega arith) in
+    let longer : length (take (suc i) l) ≡ suc i = length-take-le (suc i) l (omega arith) in
+    let left : 64 - i ≡ suc (64 - suc i) = omega arith in
+    let zeros : replicate {A = ℕ} (64 - length (take i l)) 0 ≡ 0 ∷ replicate (64 - suc i) 0 = rw (long, left) in
+    record { size = length-set array i v ∙ f .size
+           ; same = ap (λ t. set t i v) (f .same ∙ ap (λ t. take i l ++ t) zeros) ∙ set-at (take i l) 0 (replicate (64 - suc i) 0) v i long
+                    ∙ rw (add-one i, longer, take-suc l i 0 h, e) (sym (append-snoc (take i l) (at l i) (replicate (64 - suc i) 0))) }
+
+pub filled-end : (l array : List ℕ) (i : ℕ) → length l ≤ i → Filled l i array → array ≡ padded l
+filled-end l array i h f = f .same ∙ ap padded (take-all i l h)
+
+-- the zeros are not seen by place
+pub at-padded : (l : List ℕ) (i : ℕ) → at (padded l) i ≡ at l i
+unfolding padded
+at-padded l i = past l (64 - length l) i
+  where
+    zeros : (n i : ℕ) → at (replicate n 0) i ≡ 0
+    zeros zero i = refl
+    zeros (suc n) zero = refl
+    zeros (suc n) (suc i) = zeros n i
+
+    past : (l : List ℕ) (n i : ℕ) → at (l ++ replicate n 0) i ≡ at l i
+    past [] n i = zeros n i
+    past (x ∷ l) n zero = refl
+    past (x ∷ l) n (suc i) = past l n i
+
+pub padded-length : (l : List ℕ) → length l ≤ 64 → length (padded l) ≡ 64
+unfolding padded
+padded-length l h = simp (length-append, length-replicate) (add-sub-of-le h)
