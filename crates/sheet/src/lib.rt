@@ -109,7 +109,10 @@ pub fn read_word(part: &[u8], at: usize) -> u16
     ensures { λ r. ⌜ r ≡ word (now (part .entry)) at ⌝ }
 {
     if at < part.len() {
-        return join8(part[at], byte(part, at + 1));
+        if 2 <= part.len() - at {
+            return join8(part[at], part[at + 1]);
+        }
+        return join8(part[at], 0);
     }
     0
 }
@@ -119,6 +122,10 @@ pub fn read_long(part: &[u8], at: usize) -> u32
     ensures { λ r. ⌜ r ≡ long (now (part .entry)) at ⌝ }
 {
     if at < part.len() {
+        if 4 <= part.len() - at {
+            let low = join8(part[at], part[at + 1]);
+            return join16(low, join8(part[at + 2], part[at + 3]));
+        }
         return join16(read_word(part, at), read_word(part, at + 2));
     }
     0
