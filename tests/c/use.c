@@ -1,0 +1,69 @@
+/* Uses every call of include/homvaits.h as a set would, on cards I to L of document 01. */
+#include "homvaits.h"
+
+#include <assert.h>
+#include <stdio.h>
+#include <string.h>
+
+static void put(uint8_t *at, unsigned x) { at[0] = (uint8_t)(x % 256); at[1] = (uint8_t)(x / 256); }
+
+static size_t jobs_of(uint8_t *list, const unsigned (*jobs)[2], size_t n) {
+    for (size_t i = 0; i < n; i++) {
+        put(list + 4 * i, jobs[i][0]);
+        put(list + 4 * i + 2, jobs[i][1]);
+    }
+    return 4 * n;
+}
+
+int main(void) {
+    const unsigned jobs[2][2] = {{5, 1}, {9, 7}};
+    uint8_t list[8], sheet[HOMVAITS_SHEET_MAX], text[HOMVAITS_TEXT_MAX];
+    size_t len = jobs_of(list, jobs, 2);
+
+    homvaits_planned planned = homvaits_plan(list, len, 1, 0, sheet, sizeof sheet);
+    assert(planned.refusal == 0 && planned.tasks == 2 && planned.cores == 1 && planned.length == 36);
+    homvaits_checked checked = homvaits_check(sheet, planned.length);
+    assert(checked.refusal == 0 && checked.tasks == 2 && checked.cores == 1);
+    homvaits_listed listed = homvaits_list(sheet, planned.length, text, sizeof text);
+    assert(listed.refusal == 0);
+    fwrite(text, 1, listed.length, stdout);
+
+    homvaits_step step = homvaits_start(sheet, planned.length, 0);
+    assert(step.refusal == 0 && step.core.count == 2);
+    step = homvaits_release(step.core, 0);
+    assert(step.refusal == 0);
+    step = homvaits_release(step.core, 1);
+    assert(step.refusal == 0);
+    const uint8_t expected[] = {0, 1, 1, 1, 1, 0, 1, 1, 1};
+    homvaits_core core = step.core;
+    for (int i = 0; i < 9; i++) {
+        if (i == 4) assert(homvaits_release(core, 0).refusal == 18);
+        if (i == 5) {
+            step = homvaits_release(core, 0);
+            assert(step.refusal == 0);
+            core = step.core;
+        }
+        homvaits_ticked ticked = homvaits_tick(core);
+        assert(ticked.refusal == 0 && ticked.task == expected[i]);
+        core = ticked.core;
+    }
+    homvaits_ticked idle = homvaits_tick(core);
+    assert(idle.refusal == 0 && idle.task == HOMVAITS_IDLE);
+    assert(homvaits_finish(idle.core, 1).refusal == 20);
+
+    const unsigned bench[2][2] = {{5, 2}, {7, 4}};
+    len = jobs_of(list, bench, 2);
+    core = homvaits_start_list(list, len).core;
+    core = homvaits_release(homvaits_release(core, 0).core, 1).core;
+    for (int i = 0; i < 7; i++) {
+        if (i == 5) core = homvaits_release(core, 0).core;
+        core = homvaits_tick(core).core;
+    }
+    step = homvaits_release(core, 1);
+    assert(step.refusal == 19 && step.place == 1 && memcmp(step.core.tasks, core.tasks, sizeof core.tasks) == 0);
+
+    core.count = 65;
+    assert(homvaits_tick(core).refusal == 21);
+    puts("C: every call used");
+    return 0;
+}
