@@ -1,19 +1,159 @@
 -- The C answers, as the code makes them.
 -- Assumes nothing.
-use Prim.Native.Nat.{ℕ}
-use mathlib.Core.Path.{_≡_, refl, sym, ap, _∙_}
+use Prim.Native.Nat.{ℕ, _≤_}
+use mathlib.Core.Path.{_≡_, refl, sym, ap, _∙_, subst}
+use mathlib.Core.Bool.{Bool, true, false, cond, false≢true}
+use lib.Dec.{ltb}
+use native.Mathlib.Omega.{arith}
+use mathlib.Core.List.{List}
+use lib.Dec.{lit≤}
 use Rattle.sheet.specs.declared.Refusal.{Refusal}
+use Rattle.sheet.specs.declared.Refusal.the-variants as words
 use Rattle.sheet.specs.Refusals.{numberOf}
 use Rattle.checker.specs.declared.Verdict.{Verdict}
-use Rattle.checker.specs.declared.Verdict.the-variants.{Accepted, Refused}
-use Rattle.checker.specs.Verdict.{Outcome, outcomeOf}
-use Rattle.capi.specs.declared.Checked.{Checked}
-use Rattle.capi.specs.Check.{checkedOf}
+use Rattle.checker.specs.declared.Verdict.the-variants as verdicts
+use Rattle.checker.specs.Verdict as check
+use Rattle.planner.specs.declared.Planned.{Planned}
+use Rattle.planner.specs.declared.Planned.the-variants as plans
+use Rattle.planner.specs.Plan as plan
+use Rattle.listing.specs.declared.Listed.{Listed}
+use Rattle.listing.specs.declared.Listed.the-variants as lists
+use Rattle.listing.specs.Answers as list
+use Rattle.timing.specs.Calls.{Call, Answer, accepted, served, idle, refused}
+use Rattle.dispatcher.specs.declared.Core.{Core}
+use Rattle.dispatcher.specs.declared.Step.{Step}
+use Rattle.dispatcher.specs.declared.Answer.{Answer as Told}
+use Rattle.dispatcher.specs.declared.Answer.the-variants.{Accepted, Served, Idle, Refused}
+use Rattle.dispatcher.specs.Operations.{answerOf}
+use Rattle.dispatcher.specs.Starts.{sheetAnswer}
+use Rattle.dispatcher.specs.OnTime.{Kept, Timely}
+use Rattle.capi.specs.declared.Moved.{Moved}
+use Rattle.capi.specs.Answers.{checkedOf, plannedOf, listedOf, movedOf, tickedOf}
 
-pub checked-accepted : (v : Verdict) (o : Outcome) (n c : ℕ) → outcomeOf v ≡ o → v ≡ Accepted n c → record { refusal = 0; place = 0; tasks = n; cores = c } ≡ checkedOf o
+-- check
+pub checked-accepted : (v : Verdict) (o : check.Outcome) (n c : ℕ) → check.outcomeOf v ≡ o → v ≡ verdicts.Accepted n c → record { refusal = 0; place = 0; tasks = n; cores = c } ≡ checkedOf o
 unfolding checkedOf
-checked-accepted v o n c e h = ap checkedOf (sym (ap outcomeOf h) ∙ e)
+checked-accepted v o n c e h = ap checkedOf (sym (ap check.outcomeOf h) ∙ e)
 
-pub checked-refused : (v : Verdict) (o : Outcome) (w : Refusal) (k p : ℕ) → outcomeOf v ≡ o → v ≡ Refused w p → k ≡ numberOf w → record { refusal = k; place = p; tasks = 0; cores = 0 } ≡ checkedOf o
+pub checked-refused : (v : Verdict) (o : check.Outcome) (w : Refusal) (k p : ℕ) → check.outcomeOf v ≡ o → v ≡ verdicts.Refused w p → k ≡ numberOf w → record { refusal = k; place = p; tasks = 0; cores = 0 } ≡ checkedOf o
 unfolding checkedOf
-checked-refused v o w k p e h r = rw r (ap checkedOf (sym (ap outcomeOf h) ∙ e))
+checked-refused v o w k p e h r = rw r (ap checkedOf (sym (ap check.outcomeOf h) ∙ e))
+
+-- plan
+pub planned-written : (v : Planned) (o : plan.Outcome) (n c s : ℕ) → plan.outcomeOf v ≡ o → v ≡ plans.Written n c s → record { refusal = 0; place = 0; tasks = n; cores = c; length = s } ≡ plannedOf o
+unfolding plannedOf
+planned-written v o n c s e h = ap plannedOf (sym (ap plan.outcomeOf h) ∙ e)
+
+pub planned-refused : (v : Planned) (o : plan.Outcome) (w : Refusal) (k p : ℕ) → plan.outcomeOf v ≡ o → v ≡ plans.Refused w p → k ≡ numberOf w → record { refusal = k; place = p; tasks = 0; cores = 0; length = 0 } ≡ plannedOf o
+unfolding plannedOf
+planned-refused v o w k p e h r = rw r (ap plannedOf (sym (ap plan.outcomeOf h) ∙ e))
+
+-- list
+pub listed-written : (v : Listed) (o : list.Answer) (n : ℕ) → list.answerOf v ≡ o → v ≡ lists.Written n → record { refusal = 0; place = 0; length = n } ≡ listedOf o
+unfolding listedOf
+listed-written v o n e h = ap listedOf (sym (ap list.answerOf h) ∙ e)
+
+pub listed-tight : (v : Listed) (o : list.Answer) → list.answerOf v ≡ o → v ≡ lists.Tight → record { refusal = 16; place = 0; length = 0 } ≡ listedOf o
+unfolding listedOf
+listed-tight v o e h = ap listedOf (sym (ap list.answerOf h) ∙ e)
+
+-- dispatch: each answer of the code
+module _ (a : Told) (s : Core) where
+  pub moved-accepted : (m : Moved) → a ≡ Accepted → m ≡ record { refusal = 0; place = 0; core = s } → m ≡ movedOf (answerOf a) s
+  unfolding movedOf
+  moved-accepted m h e = rw h e
+
+  pub moved-served : (m : Moved) (j : ℕ) → a ≡ Served j → m ≡ record { refusal = 0; place = 0; core = s } → m ≡ movedOf (answerOf a) s
+  unfolding movedOf
+  moved-served m j h e = rw h e
+
+  pub moved-idle : (m : Moved) → a ≡ Idle → m ≡ record { refusal = 0; place = 0; core = s } → m ≡ movedOf (answerOf a) s
+  unfolding movedOf
+  moved-idle m h e = rw h e
+
+  pub moved-refused : (w : Refusal) (k p : ℕ) → a ≡ Refused w p → k ≡ numberOf w → record { refusal = k; place = p; core = s } ≡ movedOf (answerOf a) s
+  unfolding movedOf
+  moved-refused w k p h r = rw (r, h)
+
+  module _ (o : Answer) (t : Core) (e : answerOf a ≡ o) (f : s ≡ t) where
+    pub ticked-served : (j : ℕ) → a ≡ Served j → record { refusal = 0; place = 0; task = j; core = s } ≡ tickedOf o t
+    unfolding tickedOf
+    ticked-served j h = rw (← e, ← f, h)
+
+    pub ticked-idle : a ≡ Idle → record { refusal = 0; place = 0; task = 255; core = s } ≡ tickedOf o t
+    unfolding tickedOf
+    ticked-idle h = rw (← e, ← f, h)
+
+    pub ticked-refused : (w : Refusal) (k p : ℕ) → a ≡ Refused w p → k ≡ numberOf w → record { refusal = k; place = p; task = 0; core = s } ≡ tickedOf o t
+    unfolding tickedOf
+    ticked-refused w k p h r = rw (← e, ← f, r, h)
+
+    pub ticked-accepted : a ≡ Accepted → record { refusal = 0; place = 0; task = 0; core = s } ≡ tickedOf o t
+    unfolding tickedOf
+    ticked-accepted h = rw (← e, ← f, h)
+
+-- a call's answer and state, handed on
+pub moved-on : (m : Moved) (a : Told) (s : Core) (o : Answer) (t : Core) → m ≡ movedOf (answerOf a) s → answerOf a ≡ o → s ≡ t → m ≡ movedOf o t
+moved-on m a s o t e h k = e ∙ rw (h, k)
+
+-- no refusal has the number 0
+positive : (w : Refusal) → 1 ≤ numberOf w
+positive words.Stub = lit≤ tt
+positive words.Mark = lit≤ tt
+positive words.Version = lit≤ tt
+positive words.Count = lit≤ tt
+positive words.Length = lit≤ tt
+positive words.Spare = lit≤ tt
+positive words.Period = lit≤ tt
+positive words.Budget = lit≤ tt
+positive words.Core = lit≤ tt
+positive words.Bare = lit≤ tt
+positive words.Factor = lit≤ tt
+positive words.Stretch = lit≤ tt
+positive words.Chain = lit≤ tt
+positive words.Overload = lit≤ tt
+positive words.NoFit = lit≤ tt
+positive words.Tight = lit≤ tt
+positive words.Unlisted = lit≤ tt
+positive words.Early = lit≤ tt
+positive words.Late = lit≤ tt
+positive words.Quiet = lit≤ tt
+positive words.Foreign = lit≤ tt
+positive words.Start = lit≤ tt
+
+-- a start that is not refused is accepted: it answers nothing else
+unfoldable pub isStart : Answer → Bool
+isStart accepted = true
+isStart (served j) = false
+isStart idle = false
+isStart (refused k p) = true
+
+start-answers : (o : check.Outcome) (k : ℕ) → isStart (sheetAnswer o k) ≡ true
+unfolding isStart sheetAnswer
+start-answers (check.accepted n c) k = by (ltb k c)
+  where
+    by : (b : Bool) → isStart (cond b accepted (refused 9 0)) ≡ true
+    by true = refl
+    by false = refl
+start-answers (check.refused w p) k = refl
+
+start-accepted : (a : Told) (s : Core) → isStart (answerOf a) ≡ true → movedOf (answerOf a) s .refusal ≡ 0 → answerOf a ≡ accepted
+unfolding isStart movedOf
+start-accepted Accepted s e z = refl
+start-accepted (Served j) s e z = absurd (false≢true e)
+start-accepted Idle s e z = absurd (false≢true e)
+start-accepted (Refused w p) s e z = absurd (omega (arith, positive w))
+
+state : (a : Answer) (s : Core) → movedOf a s .core ≡ s
+unfolding movedOf
+state accepted s = refl
+state (served j) s = refl
+state idle s = refl
+state (refused k p) s = refl
+
+-- what the start promises, of the C answer
+pub kept-on : (bytes : List ℕ) (k : ℕ) (m : Moved) (r : Step) → m ≡ movedOf (answerOf (r .answer)) (r .core) → answerOf (r .answer) ≡ sheetAnswer (check.verdict bytes) k → Timely bytes k r → m .refusal ≡ 0 → (cs : List Call) → Kept bytes k (m .core) cs
+kept-on bytes k m r e h t z cs =
+    let started : answerOf (r .answer) ≡ accepted = start-accepted (r .answer) (r .core) (ap isStart h ∙ start-answers (check.verdict bytes) k) (sym (ap (λ (x : Moved). x .refusal) e) ∙ z) in
+    let same : m .core ≡ r .core = ap (λ (x : Moved). x .core) e ∙ state (answerOf (r .answer)) (r .core) in
+    subst (λ (x : Core). Kept bytes k x cs) (sym same) (t .on-time started cs)

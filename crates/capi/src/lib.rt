@@ -1,10 +1,24 @@
-// The C interface. Every call is total; `refusal` is 0 where nothing is refused, else document 01's number; fields that do not apply
-// are 0.
+// The C interface, declared in include/homvaits.h. Every call is total; `refusal` is 0 where nothing is refused, else document 01's
+// number; fields that do not apply are 0.
 ghost use mathlib.Core.Path.{_≡_};
+ghost use mathlib.Core.List.{List};
+ghost use lib.ListN.{length};
 ghost use Rattle.checker.specs.Verdict.{verdict};
-ghost use Rattle.capi.specs.Check.{checkedOf};
-
+ghost use Rattle.planner.specs.Plan.{planOutcome, planOutput};
+ghost use Rattle.listing.specs.Answers.{listed, holding};
+ghost use Rattle.jobs.specs.Jobs.{listRows};
+ghost use Rattle.sheet.specs.Table.{scan};
+ghost use Rattle.timing.specs.Calls.{Call, release, finish, tick};
+ghost use Rattle.dispatcher.specs.Operations.{answerOf, ask, step};
+ghost use Rattle.dispatcher.specs.Starts.{sheetAnswer, sheetState, listAnswer, listState};
+ghost use Rattle.dispatcher.specs.OnTime.{Kept};
+ghost use Rattle.capi.specs.Answers.{checkedOf, plannedOf, listedOf, movedOf, tickedOf};
 use checker::Verdict;
+use dispatcher::Answer;
+use dispatcher::Core;
+use dispatcher::Step;
+use listing::Listed;
+use planner::Planned;
 
 #[repr(C)]
 pub struct Checked {
@@ -12,6 +26,37 @@ pub struct Checked {
     pub place: u16,
     pub tasks: u8,
     pub cores: u8,
+}
+
+#[repr(C)]
+pub struct PlanAnswer {
+    pub refusal: u8,
+    pub place: u16,
+    pub tasks: u8,
+    pub cores: u8,
+    pub length: u16,
+}
+
+#[repr(C)]
+pub struct ListAnswer {
+    pub refusal: u8,
+    pub place: u16,
+    pub length: u16,
+}
+
+#[repr(C)]
+pub struct Moved {
+    pub refusal: u8,
+    pub place: u16,
+    pub core: Core,
+}
+
+#[repr(C)]
+pub struct Ticked {
+    pub refusal: u8,
+    pub place: u16,
+    pub task: u8,
+    pub core: Core,
 }
 
 #[no_mangle]
@@ -31,6 +76,146 @@ pub extern "C" fn homvaits_check(sheet: &[u8]) -> Checked
             place,
             tasks: 0,
             cores: 0,
+        },
+    }
+}
+
+#[no_mangle]
+pub extern "C" fn homvaits_plan(jobs: &[u8], limit: u64, start: u64, out: &mut [u8]) -> PlanAnswer
+    ensures { λ r. ⌜ r ≡ plannedOf (planOutcome (now (jobs .entry)) limit start (length (now (out .entry)))) ⌝ }
+    ensures { λ _. ⌜ now (out .exit) ≡ planOutput (now (jobs .entry)) limit start (now (out .entry)) ⌝ }
+{
+    let answer = planner::plan(jobs, limit, start, out);
+    match answer {
+        Planned::Written {
+            tasks,
+            cores,
+            length,
+        } => PlanAnswer {
+            refusal: 0,
+            place: 0,
+            tasks,
+            cores,
+            length,
+        },
+        Planned::Refused { word, place } => PlanAnswer {
+            refusal: sheet::number(word),
+            place,
+            tasks: 0,
+            cores: 0,
+            length: 0,
+        },
+    }
+}
+
+#[no_mangle]
+pub extern "C" fn homvaits_list(sheet: &[u8], out: &mut [u8]) -> ListAnswer
+    ensures { λ r. ⌜ r ≡ listedOf (listed (now (sheet .entry)) (now (out .entry))) ⌝ }
+    ensures { λ _. ⌜ now (out .exit) ≡ holding (now (sheet .entry)) (now (out .entry)) ⌝ }
+{
+    let answer = listing::list_sheet(sheet, out);
+    match answer {
+        Listed::Written(length) => ListAnswer {
+            refusal: 0,
+            place: 0,
+            length,
+        },
+        Listed::Tight => ListAnswer {
+            refusal: 16,
+            place: 0,
+            length: 0,
+        },
+    }
+}
+
+fn passed(core: Core) -> Moved
+    ensures { λ r. ⌜ r ≡ record { refusal = 0; place = 0; core = core } ⌝ }
+{
+    Moved {
+        refusal: 0,
+        place: 0,
+        core,
+    }
+}
+
+fn hand_back(r: Step) -> Moved
+    ensures { λ m. ⌜ m ≡ movedOf (answerOf (r .answer)) (r .core) ⌝ }
+{
+    let core = r.core;
+    let answer = r.answer;
+    match answer {
+        Answer::Refused { word, place } => Moved {
+            refusal: sheet::number(word),
+            place,
+            core,
+        },
+        Answer::Accepted => passed(core),
+        Answer::Served(_) => passed(core),
+        Answer::Idle => passed(core),
+    }
+}
+
+// A start from an accepted sheet ends every job on time, whatever calls follow.
+#[no_mangle]
+pub extern "C" fn homvaits_start(sheet: &[u8], core: u64) -> Moved
+    ensures { λ r. ⌜ r ≡ movedOf (sheetAnswer (verdict (now (sheet .entry))) core) (sheetState (verdict (now (sheet .entry))) (now (sheet .entry)) core) ⌝ }
+    ensures on_time { λ r. ⌜ (r .refusal ≡ 0 → (cs : List Call) → Kept (now (sheet .entry)) core (r .core) cs) ⌝ }
+{
+    hand_back(dispatcher::start_sheet(sheet, core))
+}
+
+#[no_mangle]
+pub extern "C" fn homvaits_start_list(jobs: &[u8]) -> Moved
+    ensures { λ r. ⌜ r ≡ movedOf (listAnswer (scan (listRows 0 (now (jobs .entry))))) (listState (scan (listRows 0 (now (jobs .entry)))) (now (jobs .entry))) ⌝ }
+{
+    hand_back(dispatcher::start_list(jobs))
+}
+
+#[no_mangle]
+pub extern "C" fn homvaits_release(core: Core, number: u64) -> Moved
+    ensures { λ r. ⌜ r ≡ movedOf (ask (release number) core) (step (release number) core) ⌝ }
+{
+    hand_back(core.release(number))
+}
+
+#[no_mangle]
+pub extern "C" fn homvaits_finish(core: Core, number: u64) -> Moved
+    ensures { λ r. ⌜ r ≡ movedOf (ask (finish number) core) (step (finish number) core) ⌝ }
+{
+    hand_back(core.finish(number))
+}
+
+#[no_mangle]
+pub extern "C" fn homvaits_tick(core: Core) -> Ticked
+    ensures { λ r. ⌜ r ≡ tickedOf (ask tick core) (step tick core) ⌝ }
+{
+    let r = core.tick();
+    let next = r.core;
+    let answer = r.answer;
+    match answer {
+        Answer::Served(task) => Ticked {
+            refusal: 0,
+            place: 0,
+            task,
+            core: next,
+        },
+        Answer::Idle => Ticked {
+            refusal: 0,
+            place: 0,
+            task: 255,
+            core: next,
+        },
+        Answer::Refused { word, place } => Ticked {
+            refusal: sheet::number(word),
+            place,
+            task: 0,
+            core: next,
+        },
+        Answer::Accepted => Ticked {
+            refusal: 0,
+            place: 0,
+            task: 0,
+            core: next,
         },
     }
 }

@@ -52,11 +52,11 @@ map-at f (t ∷ l) (suc i) = map-at f l i
 
 pub aging-turn : (old new : Core) (i : ℕ) (r : Task) → length (old .tasks) ≡ 64 → old .count ≤ 64 → i < old .count → Aged old i new → r ≡ older (getD (new .tasks) i noTask) → Aged old (i + 1) (record { count = new .count; tasks = set (new .tasks) i r })
 aging-turn old new i r l m h a e = record {
-    count = a .count;
-    size = length-set (new .tasks) i r ∙ a .size;
-    front =
-      rw (e, a .front, map-at older (old .tasks) i, add-one i) (map-more older (old .tasks) i (omega arith))
-  }
+  count = a .count;
+  size = length-set (new .tasks) i r ∙ a .size;
+  front =
+      rw (e, a .front, map-at older (old .tasks) i, add-one i) (map-more older (old .tasks) i (omega arith));
+}
 
 pub aging-end : (old new : Core) (i : ℕ) → i ≤ old .count → old .count ≤ i → Aged old i new → new ≡ withTasks old (map older (tasksOf old))
 unfolding withTasks

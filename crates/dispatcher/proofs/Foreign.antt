@@ -2,7 +2,7 @@
 -- Assumes nothing.
 use Prim.Native.Nat.{ℕ, _≤_, _<_}
 use mathlib.Core.Path.{_≡_, refl, sym, _∙_}
-use mathlib.Core.Logic.{_⊎_, inl, inr}
+use mathlib.Core.Logic.{_⊎_, inl, inr, _↔_}
 use mathlib.Core.Bool.{Bool, true, false, not, _&&_, _||_, true≢false, false≢true, or-true}
 use mathlib.Core.List.{List, [], _∷_}
 use native.Mathlib.Omega.{arith}
@@ -32,9 +32,9 @@ tells-le m n = record { holds = leb-true m n; passes = le-leb m n }
 
 tells-sound : (t : Task) → Tells (sound t) (Sound t)
 tells-sound t = record {
-    holds = λ e. let h = all .holds e in record { number-max = h .0; period-min = h .1 .0; period-max = h .1 .1 .0; budget-min = h .1 .1 .1 .0; budget-max = h .1 .1 .1 .1 .0; age-max = h .1 .1 .1 .1 .1 .0; left-max = h .1 .1 .1 .1 .1 .1 };
-    passes = λ h. all .passes (h .number-max, (h .period-min, (h .period-max, (h .budget-min, (h .budget-max, (h .age-max, h .left-max))))))
-  }
+  holds = λ e. let h = all .holds e in record { number-max = h .0; period-min = h .1 .0; period-max = h .1 .1 .0; budget-min = h .1 .1 .1 .0; budget-max = h .1 .1 .1 .1 .0; age-max = h .1 .1 .1 .1 .1 .0; left-max = h .1 .1 .1 .1 .1 .1 };
+  passes = λ h. all .passes (h .number-max, (h .period-min, (h .period-max, (h .budget-min, (h .budget-max, (h .age-max, h .left-max))))));
+}
   where
     all : Tells (sound t) ((t .number ≤ 63) × ((1 ≤ t .period) × ((t .period ≤ 60000) × ((1 ≤ t .budget) × ((t .budget ≤ t .period) × ((t .age ≤ t .period) × (t .left ≤ t .budget)))))))
     all = both (tells-le _ _) (both (tells-le _ _) (both (tells-le _ _) (both (tells-le _ _) (both (tells-le _ _) (both (tells-le _ _) (tells-le _ _))))))
@@ -42,9 +42,9 @@ tells-sound t = record {
 tells-distinct : (t u : Task) → Tells (distinct t u) (Distinct t u)
 unfolding distinct Distinct
 tells-distinct t u = record {
-    holds = λ e. eqb-false (t .number) (u .number) (not-true _ e);
-    passes = λ h. let e : eqb (t .number) (u .number) ≡ false = ne-eqb _ _ h in rw e
-  }
+  holds = λ e. eqb-false (t .number) (u .number) (not-true _ e);
+  passes = λ h. let e : eqb (t .number) (u .number) ≡ false = ne-eqb _ _ h in rw e;
+}
 
 tells-above : (t u : Task) → Tells (above t u) (Above t u)
 unfolding above Above
@@ -88,6 +88,9 @@ foreign-form s e = go (ltb 64 (s .count)) refl e
 pub form-foreign : (s : Core) → InForm s → foreign s ≡ false
 unfolding foreign
 form-foreign s h = rw (le-ltb 64 (s .count) (h .count), tells-form (tasksOf s) .passes (h .form .sound, (h .form .distinct, h .form .ordered)))
+
+pub foreign-exactly : (s : Core) → (foreign s ≡ false) ↔ InForm s
+foreign-exactly s = (foreign-form s, form-foreign s)
 
 -- the two answers of the test
 pub is-foreign : (s : Core) → (InForm s → ⊥) → true ≡ foreign s

@@ -1,5 +1,10 @@
 pub mod Places
 pub mod Aging
+pub mod Starting
 pub mod Foreign
 pub mod Pass
 pub mod Outcomes
+pub mod Logs
+pub mod Schedule
+pub mod Starts
+pub mod Cards

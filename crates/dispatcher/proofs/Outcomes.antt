@@ -1,6 +1,6 @@
 -- Each way out of release, finish and tick, as the code returns it.
 -- Assumes nothing.
-use Prim.Native.Nat.{ℕ, suc, _≤_, _<_, _-_}
+use Prim.Native.Nat.{ℕ, suc, _≤_, _<_, _-_, _*_}
 use mathlib.Core.Path.{_≡_, refl, sym, ap, _∙_}
 use mathlib.Core.Bool.{Bool, true, false, cond}
 use mathlib.Core.List.{List, [], _∷_, map}
@@ -9,6 +9,8 @@ use lib.ListN.{length, take, drop, set, take-append-drop}
 use lib.Seq.{getD-take, length-take-le, take-set-lt, drop-set-lt, set-getD}
 use lib.Dec.{ltb}
 use borrow.Author.Tests.{lt-ltb, le-ltb, ltb-true}
+use mir.Val.{Fits}
+use mir.Syntax.{w64}
 use Rattle.sheet.specs.declared.Refusal.the-variants.{Foreign, Unlisted, Early, Late, Quiet}
 use Rattle.sheet.specs.declared.Refusal.{Refusal}
 use Rattle.sheet.specs.Refusals.{numberOf}
@@ -91,6 +93,10 @@ module _ (s : Core) (b : Bool) (e : b ≡ foreign s) (x : b ≡ false) where
   pub place-room : {i : ℕ} → i < s .count → i < 64
   place-room h = omega (arith, count-max)
 
+  -- its offset in bytes fits
+  pub offset-fits : {i : ℕ} → i < s .count → Fits w64 (i * 10)
+  offset-fits h = omega (arith, count-max)
+
   module _ (room : length (s .tasks) ≡ 64) where
     many : length (tasksOf s) ≡ s .count
     many = length-take-le (s .count) (s .tasks) (omega (arith, count-max))
@@ -108,9 +114,9 @@ module _ (s : Core) (b : Bool) (e : b ≡ foreign s) (x : b ≡ false) where
       -- a call that changes the first task which passes
       operation : (c : Call) (f : Task → Answer) (d : Answer) (g : Task → Task) (r : Step) → answer c (tasksOf s) ≡ ofFirst q f d (tasksOf s) → next c (tasksOf s) ≡ modify q g (tasksOf s) → i < s .count → answerOf (r .answer) ≡ f (nth (s .tasks) i) → r .core ≡ record { count = s .count; tasks = set (s .tasks) i (g (nth (s .tasks) i)) } → Operation c s r
       operation c f d g r p n h y z = record {
-          answer = y ∙ sym (native-ask c ∙ p ∙ hit h .answers f d ∙ ap f (task-at h));
-          core = z ∙ sym (native-step c ∙ ap (withTasks s) (n ∙ hit h .changes g ∙ ap (λ t. set (tasksOf s) i (g t)) (task-at h)) ∙ one-changed s i _ h)
-        }
+        answer = y ∙ sym (native-ask c ∙ p ∙ hit h .answers f d ∙ ap f (task-at h));
+        core = z ∙ sym (native-step c ∙ ap (withTasks s) (n ∙ hit h .changes g ∙ ap (λ t. set (tasksOf s) i (g t)) (task-at h)) ∙ one-changed s i _ h);
+      }
 
       -- a refusal of that task, which stays as it is
       refusal-at : (c : Call) (f : Task → Answer) (d : Answer) (g : Task → Task) (w : Refusal) (r : Step) → answer c (tasksOf s) ≡ ofFirst q f d (tasksOf s) → next c (tasksOf s) ≡ modify q g (tasksOf s) → i < s .count → f (nth (s .tasks) i) ≡ refused (numberOf w) (nth (s .tasks) i .number) → g (nth (s .tasks) i) ≡ nth (s .tasks) i → r ≡ refusal s w (nth (s .tasks) i .number) → Operation c s r
@@ -188,5 +194,5 @@ module _ (s : Core) (b : Bool) (e : b ≡ foreign s) (x : b ≡ false) where
             let back : drop (s .count) (set (s .tasks) i u) ≡ drop (s .count) (s .tasks) = drop-set-lt (s .count) (s .tasks) i u h in
             record {
               answer = sym (native-ask tick ∙ m .answers tickAnswer idle ∙ ap tickAnswer (task-at pending i at h));
-              core = y ∙ rw (front, back) (sym (native-step tick))
+              core = y ∙ rw (front, back) (sym (native-step tick));
             }

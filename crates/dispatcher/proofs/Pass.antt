@@ -90,14 +90,14 @@ pub record Passed (l : List Task) (i last : ℕ) (seen : List Bool) : Type 0 whe
 pub pass-start : (l : List Task) (seen : List Bool) → seen ≡ replicate 64 false → Passed l 0 0 seen
 unfolding Each EachPair among
 pass-start l seen e = record {
-    size = ap length e;
-    all-sound = tt;
-    distinct = tt;
-    ordered = tt;
-    ranked = tt;
-    latest = inl refl;
-    marks = λ n h. ap (λ x. getD x n false) e ∙ getD-replicate 64 n false false h
-  }
+  size = ap length e;
+  all-sound = tt;
+  distinct = tt;
+  ordered = tt;
+  ranked = tt;
+  latest = inl refl;
+  marks = λ n h. ap (λ x. getD x n false) e ∙ getD-replicate 64 n false false h;
+}
 
 -- more than 64 tasks
 pub too-many : (s : Core) → 64 < s .count → true ≡ foreign s
@@ -156,7 +156,7 @@ module _ (s : Core) (i last : ℕ) (seen : List Bool) (room : length (s .tasks) 
           ordered = subst (EachPair Above) (sym cut) (pairs-append Above old (t ∷ []) (p .ordered) (tt, tt) (each-both old (λ u g k. (rank-above u t (g .number-max) (own .number-max) (omega arith), tt)) (p .all-sound) (p .ranked)));
           ranked = subst (Each (λ u. rank u ≤ here)) (sym cut) (each-append (λ u. rank u ≤ here) old (t ∷ []) (each-of old (λ u k. omega arith) (p .ranked)) (omega arith, tt));
           latest = inr (i, omega arith, sym e);
-          marks = λ n lt. mark n lt (ℕ-discrete n (t .number)) ∙ sym (ap (among n) cut ∙ among-last n old t)
+          marks = λ n lt. mark n lt (ℕ-discrete n (t .number)) ∙ sym (ap (among n) cut ∙ among-last n old t);
         }
       where
         mark : (n : ℕ) → n < 64 → Dec (n ≡ nth (s .tasks) i .number) → getD (set seen (nth (s .tasks) i .number) true) n false ≡ (named n (nth (s .tasks) i) || among n (take i (s .tasks)))

@@ -1,13 +1,21 @@
 // The dispatcher of one core: its state, and release, finish and tick on it.
 ghost use mathlib.Core.Path.{_≡_};
 ghost use Prim.Native.Nat.{_+_, _*_, _≤_};
-ghost use mathlib.Core.List.{map};
+ghost use mathlib.Core.List.{[], map};
+ghost use Rattle.sheet.specs.Records.{periodAt, budgetAt, coreAt};
+ghost use Rattle.fit.specs.Priority.{order};
+ghost use Rattle.fit.specs.Answers.{Column};
+ghost use Rattle.jobs.specs.Jobs.{jobPeriod, jobBudget};
 ghost use Rattle.timing.specs.Tasks.{pending, named, withJob, older};
 ghost use Rattle.timing.specs.Calls.{release, finish, tick};
 ghost use Rattle.dispatcher.specs.State.{tasksOf, withTasks, sound, foreign};
 ghost use Rattle.dispatcher.specs.Operations.{Operation};
+ghost use Rattle.dispatcher.specs.Starts.{freshTask, freshTasks, stateOf, inList, SheetStart, ListStart};
+ghost use Rattle.dispatcher.specs.OnTime.{Timely};
 ghost use Rattle.dispatcher.specs.Answers.{rank, placeOf, refusal};
-
+use checker::Verdict;
+use fit::By;
+use sheet::Finding;
 use sheet::Refusal;
 use timing::Task;
 
@@ -156,12 +164,130 @@ fn all_aged(core: Core) -> Core
     next
 }
 
+// A task whose age is its period, with nothing left.
+fn fresh(period: u16, budget: u16, number: u8) -> Task
+    ensures { λ r. ⌜ r ≡ freshTask period budget number ⌝ }
+{
+    Task {
+        period,
+        budget,
+        age: period,
+        left: 0,
+        number,
+    }
+}
+
+// The state without tasks.
+fn empty() -> Core
+    ensures { λ r. ⌜ r ≡ stateOf [] ⌝ }
+{
+    let none = Task {
+        period: 0,
+        budget: 0,
+        age: 0,
+        left: 0,
+        number: 0,
+    };
+    Core {
+        count: 0,
+        tasks: [none; 64],
+    }
+}
+
+// The fresh state of core k of a sheet of n tasks. `tasks` is the sheet's part from byte 8.
+fn of_core(tasks: &[u8], n: u8, k: u8) -> Core
+    requires { ⌜ n ≤ 64 ⌝ }
+    ensures { λ r. ⌜ r ≡ stateOf (freshTasks (periodAt (now (tasks .entry))) (budgetAt (now (tasks .entry))) (order (periodAt (now (tasks .entry))) (coreAt (now (tasks .entry))) k n)) ⌝ }
+{
+    let order = fit::in_order(tasks, n, k);
+    let count = order.count;
+    let mut core = empty();
+    let mut i = 0;
+    while i < count {
+        let j = order.tasks[i];
+        core.tasks[i] = fresh(sheet::period(tasks, j), sheet::budget(tasks, j), j);
+        i += 1;
+    }
+    core.count = count;
+    core
+}
+
 fn refuse(core: Core, word: Refusal, place: u16) -> Step
     ensures { λ r. ⌜ r ≡ refusal core word place ⌝ }
 {
     Step {
         answer: Answer::Refused { word, place },
         core,
+    }
+}
+
+// The periods of the n entries of a job list.
+fn periods_of(list: &[u8], n: u8) -> [u16; 64]
+    requires { ⌜ n ≤ 64 ⌝ }
+    ensures { λ r. ⌜ Column (jobPeriod (now (list .entry))) n r ⌝ }
+{
+    let mut periods = [0u16; 64];
+    let mut i = 0;
+    while i < n {
+        periods[i as usize] = jobs::period(list, i);
+        i += 1;
+    }
+    periods
+}
+
+// The fresh state of a job list of n entries.
+fn of_list(list: &[u8], n: u8) -> Core
+    requires { ⌜ n ≤ 64 ⌝ }
+    ensures { λ r. ⌜ r ≡ stateOf (freshTasks (jobPeriod (now (list .entry))) (jobBudget (now (list .entry))) (inList (jobPeriod (now (list .entry))) n)) ⌝ }
+{
+    let periods = periods_of(list, n);
+    let order = fit::sorted(By::Period, &periods, n);
+    let count = order.count;
+    let mut core = empty();
+    let mut i = 0;
+    while i < count {
+        let j = order.tasks[i];
+        core.tasks[i] = fresh(jobs::period(list, j), jobs::budget(list, j), j);
+        i += 1;
+    }
+    core.count = count;
+    core
+}
+
+// Starts a core from a sheet and a core number: 1 to 14, then 9 where there is no such core, else its fresh state.
+pub fn start_sheet(sheet: &[u8], core: u64) -> Step
+    ensures { λ r. ⌜ SheetStart (now (sheet .entry)) core r ⌝ }
+    ensures on_time { λ r. ⌜ Timely (now (sheet .entry)) core r ⌝ }
+{
+    let verdict = checker::check(sheet);
+    match verdict {
+        Verdict::Refused { word, place } => refuse(empty(), word, place),
+        Verdict::Accepted { tasks, cores } => {
+            if (cores as u64) <= core {
+                return refuse(empty(), Refusal::Core, 0);
+            }
+            Step {
+                answer: Answer::Accepted,
+                core: of_core(&sheet[8..], tasks, core as u8),
+            }
+        }
+    }
+}
+
+// Starts a core on the bench from a job list: 5, 4, 7, 8, else its fresh state.
+pub fn start_list(list: &[u8]) -> Step
+    ensures { λ r. ⌜ ListStart (now (list .entry)) r ⌝ }
+{
+    let finding = jobs::check_list(list, 0);
+    match finding {
+        Finding::Broken(word, place) => refuse(empty(), word, place),
+        Finding::Clear => {
+            let n = list.len() / 4;
+            Step {
+                answer: Answer::Accepted,
+                core: of_list(list, n as u8),
+            }
+        }
     }
 }
 
@@ -222,19 +348,21 @@ impl Core {
         if is_foreign(self) {
             return refuse(self, Refusal::Foreign, 0);
         }
-        let at = first_pending(self);
-        if self.count <= at {
+        let first = first_pending(self);
+        if self.count <= first {
+            let idle = all_aged(self);
             return Step {
                 answer: Answer::Idle,
-                core: all_aged(self),
+                core: idle,
             };
         }
-        let t = self.tasks[at];
+        let t = self.tasks[first];
         let mut next = self;
-        next.tasks[at] = with_job(t, t.age, t.left - 1);
+        next.tasks[first] = with_job(t, t.age, t.left - 1);
+        let later = all_aged(next);
         Step {
             answer: Answer::Served(t.number),
-            core: all_aged(next),
+            core: later,
         }
     }
 }

@@ -43,8 +43,15 @@ pub down-start : (ps : List ℕ) (c q : ℕ) → Ready ps c → q ≡ at ps c �
 unfolding downs
 down-start ps c q r e =
     let none : drop c (take c ps) ≡ [] = drop-of-length-le (take c ps) {i = c} (simp length-take (omega arith)) in
-    record { ready = r; pivot = e; divisor = rw none; low = omega arith; high = omega (arith, pivot-low ps c r q e); size = length-set (replicate {A = ℕ} 64 0) c 1
-           ; same = rw none (one-place 64 c 1 (omega (arith, r .inside, r .size))) }
+    record {
+      ready = r;
+      pivot = e;
+      divisor = rw none;
+      low = omega arith;
+      high = omega (arith, pivot-low ps c r q e);
+      size = length-set (replicate {A = ℕ} 64 0) c 1;
+      same = rw none (one-place 64 c 1 (omega (arith, r .inside, r .size)));
+    }
 
 module _ (ps : List ℕ) (c q d i : ℕ) (array : List ℕ) (s : DownLoop ps c q array d i) where
   pub divisor-high : d ≤ 120000
@@ -93,8 +100,15 @@ module _ (ps : List ℕ) (c q d i : ℕ) (array : List ℕ) (s : DownLoop ps c q
               let more : drop j (take c ps) ≡ x ∷ drop (suc j) (take c ps) = drop-cons (take c ps) j 0 (omega arith) ∙ ap (λ y. y ∷ drop (suc j) (take c ps)) (sym place) in
               let own : v ≡ down q x (at (downs q (drop (suc j) (take c ps))) 0) = g ∙ ap (down q x) (t .divisor) in
               rw back
-              (record { ready = t .ready; pivot = t .pivot; divisor = rw more own; low = low; high = high; size = length-set array j v ∙ t .size
-                      ; same = rw (more, ← own) (ap (λ y. set y j v) (t .same) ∙ last-zero j v (downs q (drop (suc j) (take c ps)) ++ replicate (64 - suc c) 0)) })
+              (record {
+                ready = t .ready;
+                pivot = t .pivot;
+                divisor = rw more own;
+                low = low;
+                high = high;
+                size = length-set array j v ∙ t .size;
+                same = rw (more, ← own) (ap (λ y. set y j v) (t .same) ∙ last-zero j v (downs q (drop (suc j) (take c ps)) ++ replicate (64 - suc c) 0));
+              })
 
 -- the first i of the factors up to the pivot's are in the array
 pub record LowerLoop (ds : List ℕ) (c d : ℕ) (array : List ℕ) (i : ℕ) : Type 0 where
@@ -112,7 +126,7 @@ module _ (ds : List ℕ) (c d i : ℕ) (array : List ℕ) (size : length ds ≡ 
   lower-turn h =
       let inside : i < length (take (c + 1) ds) = rw (length-take-le (c + 1) ds (omega arith)) (omega arith) in
       let value : d / at ds i ≡ at (map (λ x. at ds 0 / x) (take (c + 1) ds)) i =
-            ap₂ (λ x y. x / y) (s .first) (sym (getD-take (c + 1) ds i 0 (omega arith))) ∙ sym (at-map (λ x. at ds 0 / x) (take (c + 1) ds) i inside) in
+      ap₂ (λ x y. x / y) (s .first) (sym (getD-take (c + 1) ds i 0 (omega arith))) ∙ sym (at-map (λ x. at ds 0 / x) (take (c + 1) ds) i inside) in
       record { first = s .first; filled = filled-turn _ array i (d / at ds i) (rw lower-length (omega arith)) (rw lower-length (omega arith)) value (s .filled) }
 
   pub lower-end : c < i → array ≡ padded (map (λ x. at ds 0 / x) (take (c + 1) ds))
@@ -141,9 +155,14 @@ module _ (ps : List ℕ) (c : ℕ) (r : Ready ps c) where
   upper-start d q array e f g =
       let back : c + 1 - 1 ≡ c = omega arith in
       let short : length (take (c + 1) (dct ps c .factors)) ≤ 64 = simp length-take (omega (arith, all-length, r .size)) in
-      record { ready = r; pivot = e; divisor = f; past = omega arith
-             ; filled = record { size = ap length g ∙ padded-length _ short; same = g }
-             ; factor = rw back (f ∙ sym (steps .pivot)) }
+      record {
+        ready = r;
+        pivot = e;
+        divisor = f;
+        past = omega arith;
+        filled = record { size = ap length g ∙ padded-length _ short; same = g };
+        factor = rw back (f ∙ sym (steps .pivot));
+      }
 
 module _ (ps : List ℕ) (c d q m i : ℕ) (array : List ℕ) (s : UpperLoop ps c d q array m i) where
   pub upper-divisor : d ≤ 120000
@@ -173,9 +192,14 @@ module _ (ps : List ℕ) (c d q m i : ℕ) (array : List ℕ) (s : UpperLoop ps 
       pub upper-turn : UpperLoop ps c d q (set array i v) v (i + 1)
       upper-turn =
           let back : i + 1 - 1 ≡ i = omega arith in
-          record { ready = s .ready; pivot = s .pivot; divisor = s .divisor; past = omega (arith, s .past)
-                 ; filled = filled-turn (dct ps c .factors) array i v (rw (all-length ps c (s .ready)) (s .ready .size)) (rw (all-length ps c (s .ready)) h) value (s .filled)
-                 ; factor = rw back value }
+          record {
+            ready = s .ready;
+            pivot = s .pivot;
+            divisor = s .divisor;
+            past = omega (arith, s .past);
+            filled = filled-turn (dct ps c .factors) array i v (rw (all-length ps c (s .ready)) (s .ready .size)) (rw (all-length ps c (s .ready)) h) value (s .filled);
+            factor = rw back value;
+          }
 
 -- the three parts together
 module _ (ps : List ℕ) (c : ℕ) (list : List ℕ) (r : Ready ps c) (e : list ≡ padded (downs (at ps c) (take c ps))) where

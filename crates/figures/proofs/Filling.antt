@@ -27,9 +27,11 @@ filled-turn l array i v small h e f =
     let longer : length (take (suc i) l) ≡ suc i = length-take-le (suc i) l (omega arith) in
     let left : 64 - i ≡ suc (64 - suc i) = omega arith in
     let zeros : replicate {A = ℕ} (64 - length (take i l)) 0 ≡ 0 ∷ replicate (64 - suc i) 0 = rw (long, left) in
-    record { size = length-set array i v ∙ f .size
-           ; same = ap (λ t. set t i v) (f .same ∙ ap (λ t. take i l ++ t) zeros) ∙ set-at (take i l) 0 (replicate (64 - suc i) 0) v i long
-                    ∙ rw (add-one i, longer, take-suc l i 0 h, e) (sym (append-snoc (take i l) (at l i) (replicate (64 - suc i) 0))) }
+    record {
+      size = length-set array i v ∙ f .size;
+      same = ap (λ t. set t i v) (f .same ∙ ap (λ t. take i l ++ t) zeros) ∙ set-at (take i l) 0 (replicate (64 - suc i) 0) v i long
+          ∙ rw (add-one i, longer, take-suc l i 0 h, e) (sym (append-snoc (take i l) (at l i) (replicate (64 - suc i) 0)));
+    }
 
 pub filled-end : (l array : List ℕ) (i : ℕ) → length l ≤ i → Filled l i array → array ≡ padded l
 filled-end l array i h f = f .same ∙ ap padded (take-all i l h)

@@ -87,8 +87,12 @@ module _ (ps es : List ℕ) (set : taskSet ps es ≡ true) where
       let a : Acceleration = construction k ps i in
       let s : Sound 2 ps a = sound k i h in
       rw (← even, e)
-      (record { some = omega arith; few = round-ready i h .size; divisor = le-of-lt (divisor-bound 2 ps a s)
-              ; factors = λ j q. rw (at-padded (a .factors) j) (factors-at (a .Q) (a .D) 1 ps (a .factors) (s .factors) j q .1, le-of-lt (factors-bound 2 ps a (periods ps i (round-ready i h)) s j q)) })
+      (record {
+        some = omega arith;
+        few = round-ready i h .size;
+        divisor = le-of-lt (divisor-bound 2 ps a s);
+        factors = λ j q. rw (at-padded (a .factors) j) (factors-at (a .Q) (a .D) 1 ps (a .factors) (s .factors) j q .1, le-of-lt (factors-bound 2 ps a (periods ps i (round-ready i h)) s j q));
+      })
 
 -- what is written says what the acceleration says
 passes-written : (es : List ℕ) (a : Acceleration) → passes es (readBack (written a)) ≡ passes es a

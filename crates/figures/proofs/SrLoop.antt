@@ -42,8 +42,16 @@ module _ (b : ℕ) (ps : List ℕ) (c : ℕ) (two : 2 ≤ b) (three : b ≤ 3) (
   unfolding sr Power
   sr-start q x d e f g =
       let same : d ≡ sr b ps c .D = g ∙ ap₂ (λ s t. leastPower b s t) e f in
-      record { two = two; three = three; ready = r; pivot = e; divisor = same; filled = filled-start (sr b ps c .factors); power = (0, sym (pow-zero b))
-             ; fits = λ k low high. rw (same, e) (le-trans (first-fits k high) (mul-le-mul-right (sr b ps c .D) (rising-pair 1 ps (periods ps c r) 0 k zero-le high))) }
+      record {
+        two = two;
+        three = three;
+        ready = r;
+        pivot = e;
+        divisor = same;
+        filled = filled-start (sr b ps c .factors);
+        power = (0, sym (pow-zero b));
+        fits = λ k low high. rw (same, e) (le-trans (first-fits k high) (mul-le-mul-right (sr b ps c .D) (rising-pair 1 ps (periods ps c r) 0 k zero-le high)));
+      }
     where
       first-fits : (k : ℕ) → k < length ps → sr b ps c .Q * 1 ≤ at ps 0 * sr b ps c .D
       first-fits k high =
@@ -96,7 +104,13 @@ module _ (b : ℕ) (ps : List ℕ) (c q d : ℕ) (array : List ℕ) (m i : ℕ) 
       sr-turn =
           let up : Rising 1 ps = periods ps c (s .ready) in
           let n : Multiplier b (sr b ps c .Q) (at ps i) (at (sr b ps c .factors) i) (sr b ps c .D) = sr-multiplier b (s .two) ps c up (s .ready .inside) i h in
-          record { two = s .two; three = s .three; ready = s .ready; pivot = s .pivot; divisor = s .divisor
-                 ; filled = filled-turn (sr b ps c .factors) array i v (rw same-length (s .ready .size)) (rw same-length h) factor (s .filled)
-                 ; power = rw factor (n .factor)
-                 ; fits = λ k low high. rw (s .pivot, s .divisor, factor) (le-trans (n .fits) (mul-le-mul-right (sr b ps c .D) (rising-pair 1 ps up i k (omega arith) high))) }
+          record {
+            two = s .two;
+            three = s .three;
+            ready = s .ready;
+            pivot = s .pivot;
+            divisor = s .divisor;
+            filled = filled-turn (sr b ps c .factors) array i v (rw same-length (s .ready .size)) (rw same-length h) factor (s .filled);
+            power = rw factor (n .factor);
+            fits = λ k low high. rw (s .pivot, s .divisor, factor) (le-trans (n .fits) (mul-le-mul-right (sr b ps c .D) (rising-pair 1 ps up i k (omega arith) high)));
+          }

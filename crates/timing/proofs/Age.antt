@@ -62,12 +62,12 @@ aged-start j (later {t} x c) h e = ((λ n. absurd (eqb-false _ _ x n)), aged-sta
 pub age-counts : (s : List Task) → Form s → Each Fresh s → (cs : List Call) → AgeCounts (log answer next s cs) (run next s cs)
 unfolding Logged run calls next answer
 age-counts s f h cs = record {
-    since = λ before xs j e z.
+  since = λ before xs j e z.
       let r = log-split answer next cs s before _ e in
       let s₁ = run next s (calls before) in
       let x = aged-start j (changed-named j released releaseAnswer s₁) (form-run (calls before) s f .distinct) (sym (r .1 .0)) in
       rw (r .2) (each-of _ (λ t k n. omega (arith, k n)) (aged-run j (λ p. 0) 0 xs (next (release j) s₁) (r .1 .1) x z));
-    unreleased = λ j z.
+  unreleased = λ j z.
       let x = aged-run j (λ p. p) 0 (log answer next s cs) s (logged answer next cs s) (each-of s (λ t k n. omega (arith, k .age)) h) z in
-      rw (← (run-log answer next cs s)) (each-of _ (λ t k n. omega (arith, k n)) x)
-  }
+      rw (← (run-log answer next cs s)) (each-of _ (λ t k n. omega (arith, k n)) x);
+}

@@ -44,6 +44,6 @@ number-next c s k = ap (λ t. t .number) (bare-nth c s k)
 pub demand-kept : (B w : ℕ → ℕ) (c : Call) (s : List Task) → Demand B w s → Demand B w (next c s)
 unfolding bare withJob
 demand-kept B w c s h = record {
-    room = λ k lt. rw (number-next c s k, take-next c (suc k) s, rate-next (w (nth s k .number)) c (take (suc k) s)) (h .room k (omega (arith, length-next c s)));
-    within = λ k lt. rw (number-next c s k) (omega (arith, h .within k (omega (arith, length-next c s)), ap (λ t. t .period) (bare-nth c s k)))
-  }
+  room = λ k lt. rw (number-next c s k, take-next c (suc k) s, rate-next (w (nth s k .number)) c (take (suc k) s)) (h .room k (omega (arith, length-next c s)));
+  within = λ k lt. rw (number-next c s k) (omega (arith, h .within k (omega (arith, length-next c s)), ap (λ t. t .period) (bare-nth c s k)));
+}

@@ -38,11 +38,11 @@ sound-next tick s h = each-map Sound Sound older (modify pending used s) (λ t k
 pub form-kept : (c : Call) (s : List Task) → Form s → Form (next c s)
 unfolding Distinct Above bare withJob
 form-kept c s h = record {
-    count = omega (arith, length-next c s);
-    sound = sound-next c s (h .sound);
-    distinct = figures-kept (EachPair Distinct) (pair-of-map Distinct bare) c s (h .distinct);
-    ordered = figures-kept (EachPair Above) (pair-of-map Above bare) c s (h .ordered)
-  }
+  count = omega (arith, length-next c s);
+  sound = sound-next c s (h .sound);
+  distinct = figures-kept (EachPair Distinct) (pair-of-map Distinct bare) c s (h .distinct);
+  ordered = figures-kept (EachPair Above) (pair-of-map Above bare) c s (h .ordered);
+}
 
 -- a list of calls hands back a state in form
 pub form-run : (cs : List Call) (s : List Task) → Form s → Form (run next s cs)

@@ -72,7 +72,7 @@ busy-used w B r b s pos h =
     record {
       paid = omega arith;
       young = each-changed (Young b) (λ t k p. k (omega arith)) c (h .young);
-      fits = omega arith
+      fits = omega arith;
     }
 
 -- a tick that is held against the level passes, and all ages rise
@@ -84,7 +84,7 @@ busy-older w B r b s h =
     record {
       paid = omega arith;
       young = each-map (Young b) (Young (b + 1)) older s (λ t k p. omega (arith, k p)) (h .young);
-      fits = omega arith
+      fits = omega arith;
     }
 
 -- a finish and a tick add no work
@@ -106,7 +106,7 @@ busy-finish w B r b j s h =
     record {
       paid = omega arith;
       young = each-changed (Young b) (λ t k. finished-cases (Young b) t k (λ p q. k p)) c (h .young);
-      fits = omega arith
+      fits = omega arith;
     }
 
 -- a release within the window: what is due is still within the demand of the window
@@ -120,17 +120,17 @@ busy-release w B r b j s room pos lt h =
     record {
       paid = omega arith;
       young = each-changed (Young b) (λ t k. released-cases (Young b) t k (λ old z p. omega arith)) c (h .young);
-      fits = omega arith
+      fits = omega arith;
     }
 
 -- a level without work: as if it became busy just now
 busy-idle : (w B r : ℕ) (s : List Task) → B + sumOf (rate w) s ≤ w → r ≤ B → work s ≡ 0 → Busy w B r 0 s
 unfolding sumOf Each
 busy-idle w B r s room held z = record {
-    paid = omega arith;
-    young = go s z;
-    fits = omega arith
-  }
+  paid = omega arith;
+  young = go s z;
+  fits = omega arith;
+}
   where
     go : (l : List Task) → work l ≡ 0 → Each (Young 0) l
     go [] e = tt

@@ -32,10 +32,10 @@ pub record Good (B w e : ℕ → ℕ) (s : List Task) : Type 0 where
 -- a job that a call other than a tick leaves as it is
 goes-same : (x : Entry) {t t′ : Task} → count isTick (x ∷ []) ≡ 0 → t′ ≡ t → Goes x t t′
 goes-same x {t} {t′} n e = record {
-    number = ap (λ u. u .number) e;
-    left = omega (arith, ap (λ u. u .left) e);
-    age = omega (arith, ap (λ u. u .age) e)
-  }
+  number = ap (λ u. u .number) e;
+  left = omega (arith, ap (λ u. u .left) e);
+  age = omega (arith, ap (λ u. u .age) e);
+}
 
 -- what each call does to a pending job
 release-goes : (j : ℕ) (s : List Task) (i : ℕ) → 0 < nth s i .left → Goes (entry (release j) (answer (release j) s)) (nth s i) (nth (next (release j) s) i)
@@ -95,13 +95,13 @@ module _ (B w e : ℕ → ℕ) where
   pub good-kept : (c : Call) (s : List Task) → Good B w e s → Good B w e (next c s)
   unfolding bare withJob
   good-kept c s g = record {
-      form = form-kept c s (g .form);
-      demand = demand-kept B w c s (g .demand);
-      budgets = figures-kept (Each (λ t. e (t .number) ≡ t .budget)) (each-of-map (λ t. e (t .number) ≡ t .budget) bare) c s (g .budgets);
-      levels = λ k lt.
+    form = form-kept c s (g .form);
+    demand = demand-kept B w c s (g .demand);
+    budgets = figures-kept (Each (λ t. e (t .number) ≡ t .budget)) (each-of-map (λ t. e (t .number) ≡ t .budget) bare) c s (g .budgets);
+    levels = λ k lt.
         let lt′ : k < length s = omega (arith, length-next c s) in
-        rw (number-next c s k, take-next c (suc k) s) (level-kept c _ (B k) 0 (take (suc k) s) (g .demand .room k lt′) (omega arith) (each-take _ (suc k) s (each-of s (λ t h. h .period-min) (g .form .sound))) (g .levels k lt′))
-    }
+        rw (number-next c s k, take-next c (suc k) s) (level-kept c _ (B k) 0 (take (suc k) s) (g .demand .room k lt′) (omega arith) (each-take _ (suc k) s (each-of s (λ t h. h .period-min) (g .form .sound))) (g .levels k lt′));
+  }
 
   -- a pending job still fits before its bound
   timely : (s : List Task) (i : ℕ) → Good B w e s → 0 < nth s i .left → nth s i .age + nth s i .left ≤ w (nth s i .number)
@@ -135,21 +135,21 @@ module _ (B w e : ℕ → ℕ) where
   pub list-machine : Machine answer next (Good B w e) nth (λ s. w) (λ s. e)
   unfolding count isRefused
   list-machine = record {
-      kept = good-kept;
-      timely = timely;
-      moves = λ c s i g p. ⊎-elim inl (λ m. inr (m, refl)) (moves c s i g p);
-      begins = λ j s g a. let b = begins j s g a in (b .0, b .1, b .2, refl);
-      punctual = λ c s g. rw (not-late c s g)
-    }
+    kept = good-kept;
+    timely = timely;
+    moves = λ c s i g p. ⊎-elim inl (λ m. inr (m, refl)) (moves c s i g p);
+    begins = λ j s g a. let b = begins j s g a in (b .0, b .1, b .2, refl);
+    punctual = λ c s g. rw (not-late c s g);
+  }
 
   -- a state in which nothing is pending is good, whatever the ages are
   pub good-idle : (s : List Task) → Form s → Each (λ t. t .left ≡ 0) s → Demand B w s → Each (λ t. e (t .number) ≡ t .budget) s → Good B w e s
   good-idle s f h d b = record {
-      form = f;
-      demand = d;
-      budgets = b;
-      levels = λ k lt. level-idle _ (B k) 0 (take (suc k) s) (each-take _ (suc k) s h)
-    }
+    form = f;
+    demand = d;
+    budgets = b;
+    levels = λ k lt. level-idle _ (B k) 0 (take (suc k) s) (each-take _ (suc k) s h);
+  }
 
 -- The on-time theorem. From a fresh state in form whose figures pass the demand test, every log obeys the on-time rule with the bounds w and the budgets e.
 pub on-time : (B w e : ℕ → ℕ) (s : List Task) → Form s → Each Fresh s → Demand B w s → Each (λ t. e (t .number) ≡ t .budget) s → (cs : List Call) → OnTime w e (log answer next s cs)

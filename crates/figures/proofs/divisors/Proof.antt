@@ -57,7 +57,7 @@ wide-requires-2 c κs = search needs
 
 -- src/lib.rt:117:9
 down-step-requires : tie.Need-down-step-requires Inv-loop μ-loop
-down-step-requires c κs = 
+down-step-requires c κs =
     (search (ranges, needs), search (ranges, needs), search (down-low, needs), search (down-high, needs), search needs, search (divisor-high, needs))
 
 -- src/lib.rt:118:19

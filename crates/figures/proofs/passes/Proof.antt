@@ -68,7 +68,7 @@ array-read-share c = search needs
 
 -- src/lib.rt:190:18
 share-requires : tie.Need-share-requires Inv-loop μ-loop
-share-requires c κs = 
+share-requires c κs =
     (search needs, search needs, search needs, search (factor-positive, needs))
 
 -- src/lib.rt:190:9
@@ -89,7 +89,7 @@ loop-less c = search needs
 
 -- src/lib.rt:189:5
 loop-again : tie.Need-loop-again Inv-loop μ-loop
-loop-again c = 
+loop-again c =
     (search needs, load-turn _ _ _ _ _ _ _ (c .before .before .before .before .before .loop .inv .1) _ _ (c .before .before .wide2 .ensures .0) (c .before .share .ensures .0) (c .if1 .left))
 
 -- src/lib.rt:178:1

@@ -63,7 +63,7 @@ mul-largest-power c = search (limit-fits, needs)
 
 -- src/lib.rt:77:9
 largest-power-requires : tie.Need-largest-power-requires Inv-loop μ-loop
-largest-power-requires c κs = 
+largest-power-requires c κs =
     (search needs, search needs, search (pivot-positive, needs), search (limit-small, needs), search (power-fits, needs), search needs)
 
 -- src/lib.rt:78:22

@@ -50,7 +50,7 @@ wide-requires-2 c κs = search needs
 
 -- src/lib.rt:148:9
 up-step-requires : tie.Need-up-step-requires Inv-loop μ-loop
-up-step-requires c κs = 
+up-step-requires c κs =
     (search (ranges, needs), search (ranges, needs), search (ranges, needs), search (upper-divisor, needs), search (upper-low, needs), search (upper-high, needs))
 
 -- src/lib.rt:149:22

@@ -1,6 +1,6 @@
 use borrow.Author.Needs.{needs}
 use Rattle.dispatcher.proofs.Places.{array-length}
-use Rattle.dispatcher.proofs.Outcomes.{op-foreign, count-max, place-room, finish-unlisted, finish-quiet, finish-ends}
+use Rattle.dispatcher.proofs.Outcomes.{op-foreign, count-max, place-room, offset-fits, finish-unlisted, finish-quiet, finish-ends}
 use Rattle.dispatcher.proofs.Core.finish.Statement.{statement}
 use Rattle.dispatcher.proofs.Core.finish.Tie as tie
 use Rattle.dispatcher.proofs.Core.finish.Reads as reads
@@ -36,11 +36,11 @@ returns-2 c = search (finish-unlisted, array-length, needs)
 
 -- src/lib.rt:206:17
 mul-t : tie.Need-mul-t
-mul-t c = search (place-room, count-max, needs)
+mul-t c = search offset-fits
 
 -- src/lib.rt:206:17
 element-copy-out-t : tie.Need-element-copy-out-t
-element-copy-out-t c = search (place-room, count-max, needs)
+element-copy-out-t c = search (place-room, needs)
 
 -- src/lib.rt:208:49
 cast-refuse : tie.Need-cast-refuse
@@ -60,11 +60,11 @@ with-job-requires c κs = search needs
 
 -- src/lib.rt:211:9
 mul-t11 : tie.Need-mul-t11
-mul-t11 c = search (place-room, count-max, needs)
+mul-t11 c = search offset-fits
 
 -- src/lib.rt:211:9
 element-set-from-next : tie.Need-element-set-from-next
-element-set-from-next c = search (place-room, count-max, needs)
+element-set-from-next c = search (place-room, needs)
 
 -- src/lib.rt:196:5
 returns-4 : tie.Need-returns-4

@@ -1,0 +1,38 @@
+-- The C answers: `refusal` is 0 where nothing is refused, else document 01's number; fields that do not apply are 0.
+use Prim.Native.Nat.{ℕ}
+use Rattle.checker.specs.Verdict as check
+use Rattle.planner.specs.Plan as plan
+use Rattle.listing.specs.Answers as list
+use Rattle.timing.specs.Calls.{Answer, accepted, served, idle, refused}
+use Rattle.dispatcher.specs.declared.Core.{Core}
+use Rattle.capi.specs.declared.Checked.{Checked}
+use Rattle.capi.specs.declared.PlanAnswer.{PlanAnswer}
+use Rattle.capi.specs.declared.ListAnswer.{ListAnswer}
+use Rattle.capi.specs.declared.Moved.{Moved}
+use Rattle.capi.specs.declared.Ticked.{Ticked}
+
+unfoldable pub checkedOf : check.Outcome → Checked
+checkedOf (check.accepted n c) = record { refusal = 0; place = 0; tasks = n; cores = c }
+checkedOf (check.refused k p) = record { refusal = k; place = p; tasks = 0; cores = 0 }
+
+unfoldable pub plannedOf : plan.Outcome → PlanAnswer
+plannedOf (plan.written n c s) = record { refusal = 0; place = 0; tasks = n; cores = c; length = s }
+plannedOf (plan.refused k p) = record { refusal = k; place = p; tasks = 0; cores = 0; length = 0 }
+
+unfoldable pub listedOf : list.Answer → ListAnswer
+listedOf (list.written n) = record { refusal = 0; place = 0; length = n }
+listedOf (list.refused k p) = record { refusal = k; place = p; length = 0 }
+
+-- a start, a release or a finish, with the state that it hands back
+unfoldable pub movedOf : Answer → Core → Moved
+movedOf accepted s = record { refusal = 0; place = 0; core = s }
+movedOf (served j) s = record { refusal = 0; place = 0; core = s }
+movedOf idle s = record { refusal = 0; place = 0; core = s }
+movedOf (refused k p) s = record { refusal = k; place = p; core = s }
+
+-- a tick: the task that got it, or 255 where it was idle
+unfoldable pub tickedOf : Answer → Core → Ticked
+tickedOf accepted s = record { refusal = 0; place = 0; task = 0; core = s }
+tickedOf (served j) s = record { refusal = 0; place = 0; task = j; core = s }
+tickedOf idle s = record { refusal = 0; place = 0; task = 255; core = s }
+tickedOf (refused k p) s = record { refusal = k; place = p; task = 0; core = s }

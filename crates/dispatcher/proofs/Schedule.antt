@@ -1,0 +1,145 @@
+-- From the figures of a core that the checker accepts to the on-time rule: the fresh tasks are in form, and each level's demand in w ticks
+-- fits in w ticks.
+-- Assumes nothing.
+use Prim.Native.Nat.{ℕ, zero, suc, _+_, _*_, _-_, _/_, _≤_, _<_}
+use mathlib.Core.Path.{_≡_, refl, sym, ap, subst, _∙_}
+use mathlib.Core.Logic.{_⊎_, inl, inr}
+use mathlib.Core.List.{List, [], _∷_, _++_}
+use native.Mathlib.Nat.{mul-div-right, mul-one, mul-comm, mul-assoc, add-mul, zero-mul}
+use native.Mathlib.Omega.{arith}
+use lib.ListN.{length, getD, take, drop, length-map}
+use lib.Seq.{split-at, take-suc, append-snoc}
+use Rattle.fit.specs.Lists.{sum, Each, EachPair}
+use Rattle.fit.specs.Fits.{Multiple, load, within}
+use Rattle.fit.proofs.Lists.{each-both, each-append, each-halves, each-at, pairs-before, each-between, each-all, each-of}
+use Rattle.checker.specs.Accepted.{Schedulable}
+use Rattle.timing.specs.declared.Task.{Task}
+use Rattle.timing.specs.Calls.{Call, answer, next, log}
+use Rattle.timing.specs.Form.{Sound, Distinct, Above, Form, Fresh}
+use Rattle.timing.specs.OnTime.{OnTime}
+use Rattle.timing.specs.Serving.{nth}
+use Rattle.timing.proofs.Rate.{sumOf, rate, rate-le}
+use Rattle.timing.proofs.Demand.{Demand, room-of-load}
+use Rattle.timing.proofs.OnTime.{on-time}
+use Rattle.dispatcher.specs.Starts.{freshTask, freshTasks}
+use Rattle.fit.specs.Priority as priority
+
+-- what follows for one pair follows for each pair of a list
+pairs-of : {R S : ℕ → ℕ → Type 0} (l : List ℕ) → ((i j : ℕ) → R i j → S i j) → EachPair R l → EachPair S l
+unfolding EachPair
+pairs-of [] f h = tt
+pairs-of (i ∷ l) f h = (each-of l (f i) (h .0), pairs-of l f (h .1))
+
+module _ (p e : ℕ → ℕ) where
+  -- a property of each fresh task, and of each pair, is one of their numbers
+  each-fresh : (P : Task → Type 0) (l : List ℕ) → Each (λ i. P (freshTask (p i) (e i) i)) l → Each P (freshTasks p e l)
+  unfolding freshTasks Each
+  each-fresh P [] h = tt
+  each-fresh P (i ∷ l) h = (h .0, each-fresh P l (h .1))
+
+  pairs-fresh : (R : Task → Task → Type 0) (l : List ℕ) → EachPair (λ i j. R (freshTask (p i) (e i) i) (freshTask (p j) (e j) j)) l → EachPair R (freshTasks p e l)
+  unfolding freshTasks EachPair
+  pairs-fresh R [] h = tt
+  pairs-fresh R (i ∷ l) h = (each-fresh (R (freshTask (p i) (e i) i)) l (h .0), pairs-fresh R l (h .1))
+
+  pub fresh-length : (l : List ℕ) → length (freshTasks p e l) ≡ length l
+  unfolding freshTasks
+  fresh-length l = length-map l _
+
+  -- the task at a place, and the first k tasks
+  nth-fresh : (l : List ℕ) (k : ℕ) → k < length l → nth (freshTasks p e l) k ≡ freshTask (p (getD l k 0)) (e (getD l k 0)) (getD l k 0)
+  unfolding freshTasks
+  nth-fresh [] k h = absurd (omega arith)
+  nth-fresh (i ∷ l) zero h = refl
+  nth-fresh (i ∷ l) (suc k) h = nth-fresh l k (omega arith)
+
+  take-fresh : (k : ℕ) (l : List ℕ) → take k (freshTasks p e l) ≡ freshTasks p e (take k l)
+  unfolding freshTasks
+  take-fresh zero l = refl
+  take-fresh (suc k) [] = refl
+  take-fresh (suc k) (i ∷ l) = ap (λ x. freshTask (p i) (e i) i ∷ x) (take-fresh k l)
+
+  -- fresh tasks are fresh
+  pub all-fresh : (l : List ℕ) → Each Fresh (freshTasks p e l)
+  unfolding freshTasks Each
+  all-fresh [] = tt
+  all-fresh (i ∷ l) = (record { age = refl; left = refl }, all-fresh l)
+
+  -- fresh tasks in range, numbered and in priority order are in form
+  pub fresh-form : (l : List ℕ) → length l ≤ 64 → Each (λ i. i < 64) l → Each (λ i. (1 ≤ p i) × (p i ≤ 60000)) l → Each (λ i. (1 ≤ e i) × (e i ≤ p i)) l → EachPair (priority.Above p) l → Form (freshTasks p e l)
+  unfolding Distinct Above priority.Above
+  fresh-form l n number period budget above = record {
+    count = omega (arith, fresh-length l);
+    sound = each-fresh Sound l (each-both l in-range number (each-both l both period budget));
+    distinct = pairs-fresh Distinct l (pairs-of l (λ i j x d. apart i j d x) above);
+    ordered = pairs-fresh Above l above;
+  }
+    where
+      both : (i : ℕ) → (1 ≤ p i) × (p i ≤ 60000) → (1 ≤ e i) × (e i ≤ p i) → ((1 ≤ p i) × (p i ≤ 60000)) × ((1 ≤ e i) × (e i ≤ p i))
+      both i x y = (x, y)
+
+      in-range : (i : ℕ) → i < 64 → ((1 ≤ p i) × (p i ≤ 60000)) × ((1 ≤ e i) × (e i ≤ p i)) → Sound (freshTask (p i) (e i) i)
+      in-range i x y = record { number-max = omega arith; period-min = y .0 .0; period-max = y .0 .1; budget-min = y .1 .0; budget-max = y .1 .1; age-max = omega arith; left-max = omega arith }
+
+      apart : (i j : ℕ) → i ≡ j → (p i < p j) ⊎ ((p i ≡ p j) × (i < j)) → ⊥
+      apart i j d (inl x) = omega (arith, ap p d)
+      apart i j d (inr x) = omega arith
+
+-- the load of a list of numbers is D times the sum over its fresh tasks
+load-fresh : (p e M : ℕ → ℕ) (D m : ℕ) (l : List ℕ) → sumOf (λ t. t .budget * (m / M (t .number))) (freshTasks p e l) * D ≡ load e M D m l
+unfolding load sum sumOf freshTasks
+load-fresh p e M D m [] = zero-mul D
+load-fresh p e M D m (i ∷ l) =
+    let own : e i * (m / M i) * D ≡ e i * D * (m / M i) = mul-assoc (e i) (m / M i) D ∙ ap (λ x. e i * x) (mul-comm (m / M i) D) ∙ sym (mul-assoc (e i) D (m / M i)) in
+    omega (arith, add-mul (e i * (m / M i)) (sumOf (λ t. t .budget * (m / M (t .number))) (freshTasks p e l)) D, load-fresh p e M D m l)
+
+module _ (p e M : ℕ → ℕ) (Q D : ℕ) (l : List ℕ) (h : Schedulable p e M Q D l) where
+  -- w by task number
+  abbrev bound : ℕ → ℕ
+  bound i = within Q D (M i)
+
+  pub schedule-form : Form (freshTasks p e l)
+  schedule-form = fresh-form p e l (h .count) (h .number) (h .period) (h .budget) (h .order)
+
+  -- the releases of task j in w of task i, where M j divides M i
+  releases : (i j : ℕ) → 1 ≤ bound i → 1 ≤ p j → 1 ≤ M j → Q * M j ≤ p j * D → Multiple (M j) (M i) → (Q * M i / D - 1) / p j + 1 ≤ M i / M j
+  unfolding within Multiple
+  releases i j pos hp hm acc (c, times) =
+      let quot : M i / M j ≡ c = ap (λ x. x / M j) times ∙ mul-div-right c (omega arith) in
+      rate-le Q D (M i) (M j) (p j) (M i / M j) (omega (arith, h .divisor)) (omega arith) acc (times ∙ ap (λ x. M j * x) (sym quot)) pos
+
+  ratio : ℕ → ℕ → Type 0
+  ratio i j = (Q * M i / D - 1) / p j + 1 ≤ M i / M j
+
+  ratios : (i : ℕ) → 1 ≤ bound i → Each (λ j. Multiple (M j) (M i) → ratio i j) l
+  unfolding ratio
+  ratios i pos = each-both l (λ j x y. y (x .0)) (h .period) (each-both {R = λ j. 1 ≤ p j → Multiple (M j) (M i) → ratio i j} l (λ j m a x d. releases i j pos x m a d) (h .factor) (h .accelerated))
+
+  -- the level of the task at place k has room
+  level-room : (xs : List ℕ) (i : ℕ) (ys : List ℕ) → l ≡ xs ++ i ∷ ys → 0 + sumOf (rate (bound i)) (freshTasks p e (xs ++ i ∷ [])) ≤ bound i
+  unfolding within Multiple Each ratio
+  level-room xs i ys s =
+      let level : List ℕ = xs ++ i ∷ [] in
+      let cut : l ≡ level ++ ys = s ∙ sym (append-snoc xs i ys) in
+      let divides : Each (λ j. Multiple (M j) (M i)) level = each-append (λ j. Multiple (M j) (M i)) xs (i ∷ []) (pairs-before _ xs i ys (subst (EachPair _) s (h .multiples))) ((1, sym (mul-one (M i))), tt) in
+      let pos : 1 ≤ bound i = each-between (λ j. 1 ≤ bound j) xs i ys s (each-both l (λ j x y. omega arith) (h .bounds) (h .budget)) in
+      let many : Each (ratio i) level = each-both level (λ j d r. r d) divides (each-halves _ level ys (subst (Each _) cut (ratios i pos)) .0) in
+      room-of-load 0 Q D (M i) (λ t. M i / M (t .number)) (freshTasks p e level) (omega (arith, h .divisor)) (each-fresh p e _ level many) (omega (arith, load-fresh p e M D (M i) level, h .level xs i ys s))
+
+  -- the demand test is passed
+  pub schedule-demand : Demand (λ k. 0) bound (freshTasks p e l)
+  schedule-demand = record { room = room; within = upper }
+    where
+      room : (k : ℕ) → k < length (freshTasks p e l) → 0 + sumOf (rate (bound (nth (freshTasks p e l) k .number))) (take (suc k) (freshTasks p e l)) ≤ bound (nth (freshTasks p e l) k .number)
+      room k lt =
+          let lt′ : k < length l = omega (arith, fresh-length p e l) in
+          rw (nth-fresh p e l k lt′, take-fresh p e (suc k) l, take-suc l k 0 lt′) (level-room (take k l) (getD l k 0) (drop (suc k) l) (split-at l k 0 lt′))
+
+      upper : (k : ℕ) → k < length (freshTasks p e l) → bound (nth (freshTasks p e l) k .number) ≤ nth (freshTasks p e l) k .period
+      upper k lt =
+          let lt′ : k < length l = omega (arith, fresh-length p e l) in
+          rw (nth-fresh p e l k lt′) (each-at (λ i. (e i ≤ bound i) × (bound i ≤ p i)) 0 l k lt′ (h .bounds) .1)
+
+  -- so every log of the fresh tasks obeys the on-time rule
+  pub schedule-on-time : (cs : List Call) → OnTime bound e (log answer next (freshTasks p e l) cs)
+  schedule-on-time cs = on-time (λ k. 0) bound e (freshTasks p e l) schedule-form (all-fresh p e l) schedule-demand (each-fresh p e _ l (each-all _ l (λ i. refl))) cs

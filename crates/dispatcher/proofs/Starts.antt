@@ -1,0 +1,187 @@
+-- Each way out of the two starts, as the code returns it, and the on-time promise of a core that is started from a sheet. Of the checker
+-- they use what acceptance promises.
+-- Assumes nothing.
+use Prim.Native.Nat.{ℕ, _-_, _/_, _≤_, _<_}
+use mathlib.Core.Path.{_≡_, sym, ap, subst, _∙_, refl}
+use mathlib.Core.Option.{none, Option, some}
+use mathlib.Core.List.{List, []}
+use native.Mathlib.Omega.{arith}
+use lib.ListN.{length, take, drop, length-append, length-replicate, length-drop}
+use lib.Seq.{take-append-seam, take-all}
+use borrow.Author.Tests.{lt-ltb, le-ltb, ltb-true}
+use mir.Val.{Fits}
+use mir.Syntax.{w8}
+use mathlib.Core.Bool.{Bool, true, false, cond}
+use lib.Dec.{ltb}
+use Rattle.sheet.specs.declared.Refusal.{Refusal}
+use Rattle.sheet.specs.declared.Refusal.the-variants.{Core as NoCore}
+use Rattle.sheet.specs.declared.Finding.{Finding}
+use Rattle.sheet.specs.declared.Finding.the-variants.{Clear, Broken}
+use Rattle.sheet.specs.Table.{scan, findingOf, Refused}
+use Rattle.sheet.specs.Records.{taskCount, periodAt, budgetAt, coreAt}
+use Rattle.fit.specs.Priority.{order}
+use Rattle.fit.proofs.Priority.{order-members, order-count, order-rising}
+use Rattle.fit.proofs.Lists.{each-of}
+use Rattle.checker.specs.declared.Verdict.{Verdict}
+use Rattle.checker.specs.declared.Verdict.the-variants.{Accepted as Passed, Refused as Turned}
+use Rattle.checker.specs.Tests.{orderOn}
+use Rattle.checker.specs.Verdict.{verdict, outcomeOf}
+use Rattle.checker.specs.Accepted.{CoreOf}
+use Rattle.checker.proofs.Acceptance.{accepted-exactly, core-of}
+use Rattle.jobs.specs.Jobs.{jobCount, jobPeriod, jobBudget, listRows}
+use Rattle.jobs.proofs.Laws.{listed}
+use Rattle.timing.specs.declared.Task.{Task}
+use Rattle.timing.specs.Calls.{Call, accepted, log, answer, next, refused, Answer}
+use Rattle.timing.specs.Form.{Form}
+use Rattle.timing.specs.OnTime.{OnTime}
+use Rattle.dispatcher.specs.declared.Core.{Core}
+use Rattle.dispatcher.specs.declared.Step.{Step}
+use Rattle.dispatcher.specs.declared.Answer.the-variants.{Accepted}
+use Rattle.dispatcher.specs.State.{tasksOf, InForm}
+use Rattle.dispatcher.specs.Starts.{freshTasks, stateOf, sheetAnswer, sheetTasks, sheetState, SheetStart, listAnswer, inList, listState, ListStart, FreshCore}
+use Rattle.dispatcher.specs.OnTime.{withinOn, Kept, Timely}
+use Rattle.dispatcher.specs.Answers.{refusal}
+use Rattle.dispatcher.proofs.Logs.{log-form, never-foreign}
+use Rattle.dispatcher.proofs.Schedule.{schedule-form, schedule-on-time, all-fresh, fresh-form}
+use Rattle.checker.specs.Verdict as verdict
+
+-- the state that has these tasks: its tasks, its places and its form
+pub state-tasks : (l : List Task) → tasksOf (stateOf l) ≡ l
+unfolding stateOf
+state-tasks l = take-append-seam l _
+
+pub state-places : (l : List Task) → length l ≤ 64 → length (stateOf l .tasks) ≡ 64
+unfolding stateOf
+state-places l h = simp (length-append, length-replicate) (omega arith)
+
+pub state-form : (l : List Task) → Form l → InForm (stateOf l)
+unfolding stateOf
+state-form l f = record { count = f .count; form = subst Form (sym (state-tasks l)) f }
+
+-- fresh tasks in form make a fresh state
+fresh-core : (p e : ℕ → ℕ) (l : List ℕ) → Form (freshTasks p e l) → FreshCore (stateOf (freshTasks p e l))
+fresh-core p e l f = record {
+  places = state-places (freshTasks p e l) (f .count);
+  form = state-form (freshTasks p e l) f;
+  fresh = rw (state-tasks (freshTasks p e l)) (all-fresh p e l);
+}
+
+-- a core that the checker accepts starts fresh
+core-fresh : (s : List ℕ) (k : ℕ) → CoreOf s k → FreshCore (stateOf (sheetTasks s k))
+unfolding sheetTasks
+core-fresh s k c = fresh-core _ _ _ (schedule-form _ _ _ _ _ _ (c .schedulable))
+
+-- the on-time promise of a core that the checker accepts, from its fresh state
+pub core-kept : (s : List ℕ) (k : ℕ) → CoreOf s k → (cs : List Call) → Kept s k (stateOf (sheetTasks s k)) cs
+unfolding sheetTasks withinOn
+core-kept s k c cs =
+    let l : List Task = sheetTasks s k in
+    let f = core-fresh s k c in
+    record {
+      rule = subst (OnTime _ _) (sym (log-form cs (stateOf l) (f .places) (f .form) ∙ ap (λ t. log answer next t cs) (state-tasks l))) (schedule-on-time _ _ _ _ _ _ (c .schedulable) cs);
+      never-foreign = never-foreign cs (stateOf l) (f .places) (f .form);
+      bounds = c .schedulable .bounds;
+    }
+
+-- a refused start promises nothing on time
+pub refused-timely : (s : List ℕ) (k : ℕ) (z : Core) (w : Refusal) (p : ℕ) (r : Step) → r ≡ refusal z w p → Timely s k r
+refused-timely s k z w p r q = record { on-time = λ a. absurd (let n : _≡_ {A = ℕ} 0 1 = cc in omega arith) }
+
+module _ (s : List ℕ) (k : ℕ) (v : Verdict) (e : outcomeOf v ≡ verdict s) where
+  -- 1 to 14
+  pub sheet-refused : (w : Refusal) (p : ℕ) (z : Core) (r : Step) → v ≡ Turned w p → z ≡ stateOf [] → r ≡ refusal z w p → SheetStart s k r
+  unfolding sheetAnswer sheetState
+  sheet-refused w p z r x y q =
+      let o = sym (ap outcomeOf x) ∙ e in
+      record { answer = rw (q, ← o); core = rw (q, ← o) y }
+
+  module _ (n c : ℕ) (x : v ≡ Passed n c) where
+    passed : verdict s ≡ verdict.accepted n c
+    passed = sym e ∙ ap outcomeOf x
+
+    -- 9
+    pub sheet-no-core : (z : Core) (r : Step) → c ≤ k → z ≡ stateOf [] → r ≡ refusal z NoCore 0 → SheetStart s k r
+    unfolding sheetAnswer sheetState
+    sheet-no-core z r h y q = record { answer = rw (q, passed, le-ltb k c h); core = rw (q, passed, le-ltb k c h) y }
+
+    module _ (h : k < c) where
+      accepted-core : CoreOf s k
+      accepted-core = core-of s n c k passed h
+
+      counts : n ≡ taskCount s
+      counts = accepted-exactly s n c .0 passed .1
+
+      pub sheet-header : 8 ≤ length s
+      sheet-header = omega (arith, accepted-core .size)
+
+      pub sheet-few : n ≤ 64
+      sheet-few = omega (arith, accepted-core .tasks, counts)
+
+      -- the fresh state of the core, as it is read from the part from byte 8
+      module _ (y : Core) (q : y ≡ stateOf (freshTasks (periodAt (take (length s - 8) (drop 8 s))) (budgetAt (take (length s - 8) (drop 8 s))) (order (periodAt (take (length s - 8) (drop 8 s))) (coreAt (take (length s - 8) (drop 8 s))) k n))) where
+        fresh : y ≡ stateOf (sheetTasks s k)
+        unfolding sheetTasks orderOn
+        fresh =
+            let whole : take (length s - 8) (drop 8 s) ≡ drop 8 s = take-all (length s - 8) (drop 8 s) (simp length-drop (omega arith)) in
+            q ∙ rw (whole, counts)
+
+        pub sheet-starts : SheetStart s k (record { answer = Accepted; core = y })
+        unfolding sheetAnswer sheetState
+        sheet-starts = record { answer = rw (passed, lt-ltb k c h); core = rw (passed, lt-ltb k c h) fresh }
+
+        pub sheet-timely : Timely s k (record { answer = Accepted; core = y })
+        sheet-timely = record { on-time = λ a cs. subst (λ z. Kept s k z cs) (sym fresh) (core-kept s k accepted-core cs) }
+
+module _ (l : List ℕ) (f : Finding) (e : findingOf f ≡ scan (listRows 0 l)) where
+  -- 5, 4, 7 and 8
+  pub list-refused : (w : Refusal) (p : ℕ) (z : Core) (r : Step) → f ≡ Broken w p → z ≡ stateOf [] → r ≡ refusal z w p → ListStart l r
+  unfolding listAnswer listState
+  list-refused w p z r x y q =
+      let o = sym (ap findingOf x) ∙ e in
+      record { answer = rw (q, ← o); core = rw (q, ← o) y }
+
+  module _ (x : f ≡ Clear) where
+    clear : none ≡ scan (listRows 0 l)
+    clear = sym (ap findingOf x) ∙ e
+
+    pub list-few : length l / 4 ≤ 64
+    unfolding jobCount
+    list-few = listed 0 l clear .count
+
+    pub list-fits : Fits w8 (length l / 4)
+    list-fits = omega (arith, list-few)
+
+    -- the fresh state of the list
+    pub list-starts : (y : Core) → y ≡ stateOf (freshTasks (jobPeriod l) (jobBudget l) (inList (jobPeriod l) (length l / 4))) → ListStart l (record { answer = Accepted; core = y })
+    unfolding listAnswer listState jobCount
+    list-starts y q = record { answer = rw (← clear); core = rw (← clear) q }
+
+-- the state of an accepted start is fresh
+pub sheet-fresh : (s : List ℕ) (k : ℕ) → sheetAnswer (verdict s) k ≡ accepted → FreshCore (sheetState (verdict s) s k)
+unfolding sheetAnswer sheetState
+sheet-fresh s k a = go (verdict s) refl a
+  where
+    on : (n c : ℕ) (b : Bool) → ltb k c ≡ b → verdict s ≡ verdict.accepted n c → _≡_ {A = Answer} (cond b accepted (refused 9 0)) accepted → FreshCore (stateOf (cond b (sheetTasks s k) []))
+    on n c true h e x = core-fresh s k (core-of s n c k e (ltb-true k c h))
+    on n c false h e x = absurd (let z : _≡_ {A = ℕ} 0 1 = cc in omega arith)
+
+    go : (o : verdict.Outcome) → verdict s ≡ o → sheetAnswer o k ≡ accepted → FreshCore (sheetState o s k)
+    go (verdict.accepted n c) e x = on n c (ltb k c) refl e x
+    go (verdict.refused w p) e x = absurd (let z : _≡_ {A = ℕ} 0 1 = cc in omega arith)
+
+pub list-fresh : (l : List ℕ) → listAnswer (scan (listRows 0 l)) ≡ accepted → FreshCore (listState (scan (listRows 0 l)) l)
+unfolding listAnswer listState inList
+list-fresh l a = go (scan (listRows 0 l)) refl a
+  where
+    go : (o : Option Refused) → scan (listRows 0 l) ≡ o → listAnswer o ≡ accepted → FreshCore (listState o l)
+    go none e x =
+        let h = listed 0 l (sym e) in
+        let m = order-members (jobPeriod l) (λ i. 0) 0 (jobCount l) in
+        fresh-core (jobPeriod l) (jobBudget l) _
+        (fresh-form (jobPeriod l) (jobBudget l) _
+        (omega (arith, order-count (jobPeriod l) (λ i. 0) 0 (jobCount l), h .count))
+        (each-of _ (λ i q. omega (arith, q .0, h .count)) m)
+        (each-of _ (λ i q. h .period i (q .0)) m)
+        (each-of _ (λ i q. h .budget i (q .0)) m)
+        (order-rising (jobPeriod l) (λ i. 0) 0 (jobCount l)))
+    go (some r) e x = absurd (let z : _≡_ {A = ℕ} 0 1 = cc in omega arith)

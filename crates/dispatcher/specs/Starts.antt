@@ -1,0 +1,80 @@
+-- Document 01, "The dispatcher": the two starts. "A fresh state has every age equal to the period, nothing left, and zeros in all places
+-- past its tasks. A refused start hands back the fresh state of an empty job list."
+use Prim.Native.Nat.{ℕ, _-_}
+use mathlib.Core.Path.{_≡_}
+use mathlib.Core.Bool.{cond}
+use mathlib.Core.Option.{Option, none, some}
+use mathlib.Core.List.{List, [], _++_, map}
+use lib.ListN.{length, replicate}
+use lib.Dec.{ltb}
+use Rattle.sheet.specs.Table.{Refused, scan}
+use Rattle.sheet.specs.Records.{figures}
+use Rattle.fit.specs.Priority.{order}
+use Rattle.fit.specs.Lists.{Each}
+use Rattle.checker.specs.Tests.{orderOn}
+use Rattle.jobs.specs.Jobs.{jobCount, jobPeriod, jobBudget, listRows}
+use Rattle.timing.specs.declared.Task.{Task}
+use Rattle.timing.specs.Calls.{Answer, accepted, refused}
+use Rattle.timing.specs.Serving.{noTask}
+use Rattle.timing.specs.Form.{Fresh}
+use Rattle.dispatcher.specs.declared.Core.{Core}
+use Rattle.dispatcher.specs.declared.Step.{Step}
+use Rattle.dispatcher.specs.Operations.{answerOf}
+use Rattle.dispatcher.specs.State.{tasksOf, InForm}
+use Rattle.checker.specs.Verdict as verdict
+
+-- a task with its age equal to its period and nothing left
+abbrev pub freshTask : (p e i : ℕ) → Task
+freshTask p e i = record { period = p; budget = e; age = p; left = 0; number = i }
+
+-- the listed tasks, fresh, with p and e by task number
+unfoldable pub freshTasks : (p e : ℕ → ℕ) → List ℕ → List Task
+freshTasks p e l = map (λ i. freshTask (p i) (e i) i) l
+
+-- the state that has these tasks and zeros past them
+unfoldable pub stateOf : List Task → Core
+stateOf l = record { count = length l; tasks = l ++ replicate (64 - length l) noTask }
+
+-- "It is started from a sheet and a core number (refusals 1 to 14, then 9 with place 0 if there is no such core)"
+unfoldable pub sheetAnswer : verdict.Outcome → ℕ → Answer
+sheetAnswer (verdict.accepted n c) k = cond (ltb k c) accepted (refused 9 0)
+sheetAnswer (verdict.refused w p) k = refused w p
+
+-- the tasks of core k of a sheet in priority order, fresh
+unfoldable pub sheetTasks : List ℕ → ℕ → List Task
+sheetTasks s k = freshTasks (figures s .period) (figures s .budget) (orderOn (figures s) k)
+
+-- the state that is handed back: of the core's tasks where the start is accepted, else without tasks
+unfoldable pub sheetState : verdict.Outcome → List ℕ → ℕ → Core
+sheetState (verdict.accepted n c) s k = stateOf (cond (ltb k c) (sheetTasks s k) [])
+sheetState (verdict.refused w p) s k = stateOf []
+
+-- what a start from sheet s and core k promises: its answer, and every field of the state that it hands back
+pub record SheetStart (s : List ℕ) (k : ℕ) (r : Step) : Type 0 where
+  pub answer : answerOf (r .answer) ≡ sheetAnswer (verdict.verdict s) k
+  pub core : r .core ≡ sheetState (verdict.verdict s) s k
+
+-- "or on the bench from a job list without any sheet (5, 4, 7, 8)"; there is no limit of cores
+unfoldable pub listAnswer : Option Refused → Answer
+listAnswer none = accepted
+listAnswer (some r) = refused (r .number) (r .place)
+
+-- the first n entries of a job list in priority order; "a task's number is its place in the list"
+unfoldable pub inList : (ℕ → ℕ) → ℕ → List ℕ
+inList p n = order p (λ i. 0) 0 n
+
+-- the state that is handed back: of the listed tasks where the start is accepted, else without tasks
+unfoldable pub listState : Option Refused → List ℕ → Core
+listState none l = stateOf (freshTasks (jobPeriod l) (jobBudget l) (inList (jobPeriod l) (jobCount l)))
+listState (some r) l = stateOf []
+
+-- what a start from a job list promises
+pub record ListStart (l : List ℕ) (r : Step) : Type 0 where
+  pub answer : answerOf (r .answer) ≡ listAnswer (scan (listRows 0 l))
+  pub core : r .core ≡ listState (scan (listRows 0 l)) l
+
+-- what the state of an accepted start of either kind is: of 64 places, in form, every task fresh
+pub record FreshCore (s : Core) : Type 0 where
+  pub places : length (s .tasks) ≡ 64
+  pub form : InForm s
+  pub fresh : Each Fresh (tasksOf s)
