@@ -1,0 +1,146 @@
+-- The text, line by line and byte by byte, as the code reads it.
+-- Assumes nothing.
+use Prim.Native.Nat.{ℕ, suc, _+_, _*_, _/_, _≤_, _<_, min}
+use mathlib.Core.Path.{_≡_, refl, sym, ap, _∙_}
+use mathlib.Core.Bool.{Bool, true, false, cond, _&&_, and-false}
+use mathlib.Core.List.{List, _++_}
+use native.Mathlib.Omega.{arith}
+use native.Mathlib.Numerals.{add-one}
+use borrow.Author.Tests.{lt-ltb, le-ltb, eq-eqb, ne-eqb, ltb-true}
+use lib.Dec.{ltb, eqb}
+use lib.ListN.{length, take, drop, set, getD, replicate, drop-of-length-le}
+use lib.Seq.{drop-cons, take-suc, set-at, append-snoc, length-take-le}
+use Rattle.jobtext.specs.declared.Line.{Line}
+use Rattle.jobtext.specs.declared.State.{State}
+use Rattle.jobtext.specs.declared.Read.the-variants.{Jobs, Wrong}
+use Rattle.jobtext.proofs.Lines.{chosen, passed}
+use Rattle.jobtext.specs.Text.{emptyLine, inLine, startState, withJob, added, newLine, stoppedAt, lineEnd, step, run, finish, roomIn, readOf, holding}
+
+-- the end of a line
+module _ (room : ℕ) (s r : State) where
+  other-than-none : s .line .numbers ≡ 2 → eqb (s .line .numbers) 0 ≡ false
+  other-than-none h = ne-eqb (s .line .numbers) 0 (omega arith)
+
+  pub end-none : s .line .numbers ≡ 0 → r ≡ newLine s → r ≡ lineEnd room s
+  unfolding lineEnd
+  end-none h e = chosen _ (eq-eqb (s .line .numbers) 0 h) e
+
+  pub end-job : s .line .numbers ≡ 2 → s .count < room → r ≡ added s → r ≡ lineEnd room s
+  unfolding lineEnd
+  end-job h k e =
+      let both : (eqb (s .line .numbers) 2 && ltb (s .count) room) ≡ true = rw (eq-eqb (s .line .numbers) 2 h, lt-ltb (s .count) room k) in
+      passed _ (other-than-none h) (chosen _ both e)
+
+  pub end-full : s .line .numbers ≡ 2 → room ≤ s .count → r ≡ stoppedAt s → r ≡ lineEnd room s
+  unfolding lineEnd
+  end-full h k e =
+      let none : (eqb (s .line .numbers) 2 && ltb (s .count) room) ≡ false = rw (le-ltb (s .count) room k) (and-false (eqb (s .line .numbers) 2)) in
+      passed _ (other-than-none h) (passed _ none e)
+
+  pub end-wrong : (s .line .numbers ≡ 0 → ⊥) → (s .line .numbers ≡ 2 → ⊥) → r ≡ stoppedAt s → r ≡ lineEnd room s
+  unfolding lineEnd
+  end-wrong h k e =
+      let none : (eqb (s .line .numbers) 2 && ltb (s .count) room) ≡ false = rw (ne-eqb (s .line .numbers) 2 k) in
+      passed _ (ne-eqb (s .line .numbers) 0 h) (passed _ none e)
+
+-- the states that begin a line, with the empty line that the code made
+module _ (s : State) (l : Line) (e : l ≡ emptyLine) where
+  pub line-next : record { number = s .number + 1; line = l; stopped = false; count = s .count; jobs = s .jobs } ≡ newLine s
+  line-next = ap (λ (x : Line). record { number = s .number + 1; line = x; stopped = false; count = s .count; jobs = s .jobs }) e
+
+  pub add-next : record { number = s .number + 1; line = l; stopped = false; count = s .count + 1; jobs = withJob (s .jobs) (4 * s .count) (s .line .first) (s .line .second) } ≡ added s
+  add-next = ap (λ (x : Line). record { number = s .number + 1; line = x; stopped = false; count = s .count + 1; jobs = withJob (s .jobs) (4 * s .count) (s .line .first) (s .line .second) }) e
+
+pub start-line : (l : Line) → l ≡ emptyLine → record { number = 1; line = l; stopped = false; count = 0; jobs = replicate 256 0 } ≡ startState
+start-line l e = ap (λ (x : Line). record { number = 1; line = x; stopped = false; count = 0; jobs = replicate 256 0 }) e
+
+-- one byte
+module _ (room : ℕ) (s : State) (b : ℕ) where
+  pub step-stopped : s .stopped ≡ true → s ≡ step room s b
+  unfolding step
+  step-stopped h = chosen _ h refl
+
+  pub step-end : (r : State) → s .stopped ≡ false → b ≡ 10 → r ≡ lineEnd room s → r ≡ step room s b
+  unfolding step
+  step-end r h k e = passed _ h (chosen _ (eq-eqb b 10 k) e)
+
+  pub step-byte : (l : Line) → s .stopped ≡ false → (b ≡ 10 → ⊥) → l ≡ inLine (s .line) b → record { number = s .number; line = l; stopped = false; count = s .count; jobs = s .jobs } ≡ step room s b
+  unfolding step
+  step-byte l h k e = passed _ h (passed _ (ne-eqb b 10 k) (ap (λ (x : Line). record { number = s .number; line = x; stopped = false; count = s .count; jobs = s .jobs }) e))
+
+  -- the line number grows by at most one, and there are never more jobs than there is room for
+  step-bounds : s .count ≤ room → (step room s b .number ≤ s .number + 1) × (step room s b .count ≤ room)
+  unfolding step lineEnd
+  step-bounds h = by (s .stopped) (eqb b 10) (eqb (s .line .numbers) 0) (eqb (s .line .numbers) 2) (ltb (s .count) room) refl
+    where
+      plain : State
+      plain = record { number = s .number; line = inLine (s .line) b; stopped = false; count = s .count; jobs = s .jobs }
+
+      Bounded : State → Type 0
+      Bounded t = (t .number ≤ s .number + 1) × (t .count ≤ room)
+
+      by : (stopped feed none two fits : Bool) → ltb (s .count) room ≡ fits → Bounded (cond stopped s (cond feed (cond none (newLine s) (cond (two && fits) (added s) (stoppedAt s))) plain))
+      by true feed none two fits e = (omega arith, h)
+      by false false none two fits e = (omega arith, h)
+      by false true true two fits e = (omega arith, h)
+      by false true false true true e = (omega arith, omega (arith, ltb-true (s .count) room e))
+      by false true false true false e = (omega arith, h)
+      by false true false false fits e = (omega arith, h)
+
+-- the whole text: what is left from place i on
+pub record Reading (room : ℕ) (text : List ℕ) (s : State) (i : ℕ) : Type 0 where
+  pub rest : run room startState text ≡ run room s (drop i text)
+  pub place : i ≤ length text
+  pub number : s .number ≤ i + 1
+  pub count : s .count ≤ room
+
+pub read-start : (room : ℕ) (text : List ℕ) (s : State) → s ≡ startState → Reading room text s 0
+read-start room text s e = rw e (record { rest = refl; place = omega arith; number = omega arith; count = omega arith })
+
+module _ (room : ℕ) (text : List ℕ) (s t : State) (i : ℕ) (g : Reading room text s i) where
+  pub read-turn : i < length text → t ≡ step room s (getD text i 0) → Reading room text t (i + 1)
+  unfolding run
+  read-turn h e =
+      let b = step-bounds room s (getD text i 0) (g .count) in
+      rw e (record { rest = g .rest ∙ rw (drop-cons text i 0 h, add-one i); place = omega arith; number = omega (arith, b .0, g .number); count = b .1 })
+
+  module _ (h : length text ≤ i) (e : t ≡ step room s 10) where
+    pub read-end : t ≡ finish room text
+    unfolding finish run
+    read-end = e ∙ ap (λ (x : State). step room x 10) (sym (g .rest ∙ rw (drop-of-length-le text {i = i} h)))
+
+    pub read-count : t .count ≤ room
+    read-count = rw e (step-bounds room s 10 (g .count) .1)
+
+-- a copy: what is copied is the front of the bytes
+pub copy-next : (out new bytes : List ℕ) (i n : ℕ) → i < n → n ≤ length bytes → n ≤ length out → new ≡ take i bytes ++ drop i out → set new i (getD bytes i 0) ≡ take (i + 1) bytes ++ drop (i + 1) out
+copy-next out new bytes i n h a b e =
+    rw (e, drop-cons out i 0 (omega arith), set-at (take i bytes) (getD out i 0) (drop (suc i) out) (getD bytes i 0) i (length-take-le i bytes (omega arith)), add-one i, take-suc bytes i 0 (omega arith))
+    (sym (append-snoc (take i bytes) (getD bytes i 0) (drop (suc i) out)))
+
+pub copy-end : (out new bytes : List ℕ) (i n : ℕ) → i ≤ n → n ≤ i → new ≡ take i bytes ++ drop i out → new ≡ take n bytes ++ drop n out
+copy-end out new bytes i n h k e =
+    let z : i ≡ n = omega arith in
+    rw z at e
+
+-- the answers
+module _ (text out : List ℕ) (s : State) (room : ℕ) (e : s ≡ finish room text) (k : room ≡ min 64 (length out / 4)) where
+  same : s ≡ finish (roomIn out) text
+  unfolding roomIn
+  same = rw k at e
+
+  pub wrong-answer : s .stopped ≡ true → Wrong (s .number) ≡ readOf (finish (roomIn out) text)
+  unfolding readOf
+  wrong-answer h = chosen _ h refl ∙ ap readOf same
+
+  pub wrong-bytes : s .stopped ≡ true → out ≡ holding (finish (roomIn out) text) out
+  unfolding holding
+  wrong-bytes h = chosen _ h refl ∙ ap (λ (x : State). holding x out) same
+
+  pub jobs-answer : s .stopped ≡ false → Jobs (4 * s .count) ≡ readOf (finish (roomIn out) text)
+  unfolding readOf
+  jobs-answer h = passed _ h refl ∙ ap readOf same
+
+  pub jobs-bytes : (new : List ℕ) → s .stopped ≡ false → new ≡ take (4 * s .count) (s .jobs) ++ drop (4 * s .count) out → new ≡ holding (finish (roomIn out) text) out
+  unfolding holding
+  jobs-bytes new h b = passed _ h b ∙ ap (λ (x : State). holding x out) same

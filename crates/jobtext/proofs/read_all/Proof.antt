@@ -1,0 +1,68 @@
+use borrow.Author.Needs.{needs}
+use Prim.Native.Nat.{_-_}
+use lib.ListN.{length}
+use Rattle.jobtext.proofs.Texts.{Reading, read-start, read-turn, read-end, read-count}
+use Rattle.jobtext.proofs.read_all.Statement.{statement}
+use Rattle.jobtext.proofs.read_all.Tie as tie
+use Rattle.jobtext.proofs.read_all.Reads as reads
+use Rattle.jobtext.proofs.read_all.Lts as lts
+use Rattle.jobtext.proofs.advance.Reads as advance-reads
+use Rattle.jobtext.proofs.start.Reads as start-reads
+
+abbrev Inv-loop : tie.InvT-loop
+Inv-loop text room s₀ i₀ s i = Reading room text s i
+
+abbrev μ-loop : tie.MeasureT-loop
+μ-loop text room s₀ i₀ s i = length text - i
+
+-- src/lib.rt:259:9
+start-requires : tie.Need-start-requires Inv-loop μ-loop
+start-requires c κs = search needs
+
+-- src/lib.rt:261:5
+loop-holds : tie.Need-loop-holds Inv-loop μ-loop
+loop-holds c = search read-start
+
+-- src/lib.rt:262:37
+shared-slice-read-advance : tie.Need-shared-slice-read-advance Inv-loop μ-loop
+shared-slice-read-advance c = search needs
+
+-- src/lib.rt:262:13
+advance-requires : tie.Need-advance-requires Inv-loop μ-loop
+advance-requires c κs = search needs
+
+-- src/lib.rt:264:9
+add-i : tie.Need-add-i Inv-loop μ-loop
+add-i c = search needs
+
+-- src/lib.rt:261:5
+loop-less : tie.Need-loop-less Inv-loop μ-loop
+loop-less c = search needs
+
+-- src/lib.rt:261:5
+loop-again : tie.Need-loop-again Inv-loop μ-loop
+loop-again c = search read-turn
+
+-- src/lib.rt:266:5
+advance-requires-2 : tie.Need-advance-requires-2 Inv-loop μ-loop
+advance-requires-2 c κs = search needs
+
+-- src/lib.rt:255:1
+returns : tie.Need-returns Inv-loop μ-loop
+returns c = (search read-end, search read-count)
+
+pub read-all-spec : {M : Type 1} → statement M
+read-all-spec =
+    tie.close
+    (tie.spec
+    Inv-loop
+    μ-loop
+    start-requires
+    loop-holds
+    shared-slice-read-advance
+    advance-requires
+    add-i
+    loop-less
+    loop-again
+    advance-requires-2
+    returns)

@@ -1,0 +1,112 @@
+-- The figures of an accepted sheet as the listing shows them: within and load fit, and the code finds the load that the definition says.
+-- Assumes nothing.
+use Prim.Native.Nat.{ℕ, _*_, _/_, _≤_, _<_, min}
+use mathlib.Core.Path.{_≡_, ap, _∙_}
+use native.Mathlib.Omega.{arith}
+use native.Mathlib.Nat.{le-trans, mul-le-mul, mul-pos, div-le-of-le-mul, mul-le-mul-left, mul-comm}
+use borrow.Author.Tests.{le-leb}
+use lib.ListN.{length, take}
+use mir.Syntax.{w32}
+use mir.Val.{Fits}
+use Rattle.sheet.specs.Records.{Figures}
+use Rattle.fit.specs.declared.Order.{Order}
+use Rattle.fit.specs.declared.Chain.{Chain}
+use Rattle.fit.specs.declared.Chain.the-variants.{Whole, Broken}
+use Rattle.fit.specs.Priority.{order}
+use Rattle.fit.specs.Fits.{lastFactor, load, within}
+use Rattle.fit.specs.Answers.{Ordered, chainAnswer, chained, loadInRange}
+use Rattle.fit.proofs.Lists.{each-of}
+use Rattle.fit.proofs.Priority.{order-members, order-count}
+use Rattle.fit.proofs.Levels.{multiples-chain, load-last, last-positive, within-period}
+use Rattle.checker.specs.Tests.{orderOn}
+use Rattle.checker.specs.Accepted.{Fitting, LoadAtMostOne}
+use Rattle.listing.specs.Listing.{thousandths, loadOf}
+
+-- a period times a factor
+pub product-bound : (q m : ℕ) → q < 65536 → m < 4294967296 → q * m ≤ 281470681677825
+product-bound q m a b =
+    let x : q ≤ 65535 = omega arith in
+    let y : m ≤ 4294967295 = omega arith in
+    mul-le-mul x y
+
+-- within is at most the period
+module _ (f : Figures) (i k : ℕ) (g : Fitting f) (h : i < f .tasks) (e : k ≡ f .core i) where
+  pub within-divisor : (d : ℕ) → d ≡ f .divisor k → 0 < d
+  within-divisor d t = rw (t, e) (g .divisor (f .core i) (g .core i h) .0)
+
+  pub within-small : (q m d : ℕ) → q ≡ f .pivot k → m ≡ f .factor i → d ≡ f .divisor k → within q d m ≤ 60000
+  within-small q m d eq em ed =
+      rw (ed, eq, em, e)
+      (le-trans (within-period (f .pivot (f .core i)) (f .divisor (f .core i)) (f .factor i) (f .period i) (g .accelerated i h)) (g .period i h .1))
+
+pub within-found : (q m d x : ℕ) → x ≡ q * m → x / d ≡ within q d m
+unfolding within
+within-found q m d x e = rw e
+
+pub within-cast : (q m d x : ℕ) → x ≡ q * m → within q d m ≤ 60000 → Fits w32 (x / d)
+within-cast q m d x e h = record { fits = omega (arith, within-found q m d x e) }
+
+-- a load that is at most one is at most 1000 thousandths
+pub thousand : (load full : ℕ) → load ≤ full → 1000 * load / full ≤ 1000
+thousand load full h = div-le-of-le-mul full (rw (mul-comm full 1000) (mul-le-mul-left 1000 h))
+
+-- the last factor of a core's tasks is in range
+module _ (f : Figures) (k : ℕ) (g : Fitting f) where
+  last-small : lastFactor (f .factor) 1 (orderOn f k) ≤ 120000
+  unfolding orderOn
+  last-small = load-last (f .factor) 120000 1 _ (omega arith) (each-of _ (λ i m. g .factor i (m .0) .1) (order-members (f .period) (f .core) k (f .tasks)))
+
+  pub last-above : 0 < lastFactor (f .factor) 1 (orderOn f k)
+  unfolding orderOn
+  last-above = last-positive (f .factor) 1 _ (omega arith) (each-of _ (λ i m. g .factor i (m .0) .0) (order-members (f .period) (f .core) k (f .tasks)))
+
+module _ (f : Figures) (k : ℕ) (o : Order) (chain : Chain) (g : Fitting f) (n : f .tasks ≤ 64) (h : k < f .cores) (s : Ordered (order (f .period) (f .core) k (min (f .tasks) 64)) o) (e : chain ≡ chained (f .factor) (take (o .count) (o .tasks))) where
+  listed : take (o .count) (o .tasks) ≡ orderOn f k
+  unfolding orderOn
+  listed =
+      let m : min (f .tasks) 64 ≡ f .tasks = omega arith in
+      s .tasks ∙ ap (order (f .period) (f .core) k) m
+
+  whole : chain ≡ Whole (lastFactor (f .factor) 1 (orderOn f k))
+  unfolding chained chainAnswer
+  whole = e ∙ rw (listed, multiples-chain (f .factor) 1 (orderOn f k) (g .simply-periodic k h))
+
+  short : length (orderOn f k) ≤ 64
+  unfolding orderOn
+  short = le-trans (order-count (f .period) (f .core) k (f .tasks)) n
+
+  -- no chain of factors is broken
+  pub no-break : (i x : ℕ) → chain ≡ Broken i → 0 ≡ x
+  no-break i x q = absurd (let z : _≡_ {A = ℕ} 0 1 = cc whole in omega arith)
+
+  module _ (last : ℕ) (w : chain ≡ Whole last) where
+    is-last : last ≡ lastFactor (f .factor) 1 (orderOn f k)
+    is-last = cc whole
+
+    module _ (d r : ℕ) (ed : d ≡ f .divisor k) (t : r ≡ loadInRange (f .budget) (f .factor) d last (take (o .count) (o .tasks))) where
+      found : r ≡ load (f .budget) (f .factor) (f .divisor k) (lastFactor (f .factor) 1 (orderOn f k)) (orderOn f k)
+      unfolding loadInRange
+      found =
+          t ∙ rw (ed, listed, is-last, le-leb (f .divisor k) 120000 (g .divisor k h .1), le-leb _ 120000 (last-small f k g), le-leb _ 64 short)
+
+      -- the load is at most full, and full is in range
+      module _ (q full : ℕ) (eq : q ≡ f .pivot k) (ef : full ≡ q * last) where
+        pub load-positive : 0 < full
+        load-positive =
+            let a : 0 < q = rw eq (g .pivot k h .0) in
+            rw (ef, is-last) (mul-pos a (last-above f k g))
+
+        pub load-full : r ≤ full
+        unfolding LoadAtMostOne
+        load-full = rw (ef, eq, is-last, found) (g .load k h)
+
+        pub load-range : full ≤ 7200000000
+        load-range =
+            let b : q ≤ 60000 = rw eq (g .pivot k h .1) in
+            let l : last ≤ 120000 = rw is-last (last-small f k g) in
+            let c : q * last ≤ 60000 * 120000 = mul-le-mul b l in
+            rw ef c
+
+        pub load-found : (x : ℕ) → x ≡ thousandths r full → x ≡ loadOf f k
+        unfolding loadOf
+        load-found x ex = ex ∙ rw (ef, eq, found, is-last)

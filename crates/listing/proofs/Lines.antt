@@ -1,0 +1,58 @@
+-- The lines, as the code writes them: the numbers of the fields are the sheet's figures, and one line follows another.
+-- Assumes nothing.
+use Prim.Native.Nat.{ℕ, _+_, _*_, _≤_}
+use mathlib.Core.Path.{_≡_, refl, sym, ap, _∙_}
+use mathlib.Core.List.{List, [], _∷_, _++_, append-assoc, append-nil}
+use native.Mathlib.Omega.{arith}
+use native.Mathlib.Nat.{zero-add, mul-add, mul-one, mul-zero}
+use native.Mathlib.Numerals.{add-one}
+use lib.ListN.{length}
+use Rattle.sheet.specs.Records.{Figures}
+use Rattle.fit.specs.Lists.{numbers}
+use Rattle.fit.specs.Fits.{within}
+use Rattle.fit.proofs.Lists.{numbers-last}
+use Rattle.listing.specs.Words.{space, lineFeed}
+use Rattle.listing.specs.Words as the
+use Rattle.listing.specs.Listing.{field, withinOf, taskLine, loadOf, coreLine, lines}
+use Rattle.listing.specs.Answers.{Capped}
+use Rattle.listing.proofs.Writing.{capped-none, capped-join}
+
+module _ (f : Figures) (out new : List ℕ) (at after most : ℕ) where
+  pub task-line : (i k p e m w q d : ℕ) → Capped most out at (field the.task i space ++ field the.core k space ++ field the.period p space ++ field the.budget e space ++ field the.factor m space ++ field the.within w lineFeed) new after
+      → k ≡ f .core i → p ≡ f .period i → e ≡ f .budget i → m ≡ f .factor i → q ≡ f .pivot k → d ≡ f .divisor k → w ≡ within q d m → Capped most out at (taskLine f i) new after
+  unfolding taskLine withinOf
+  task-line i k p e m w q d t ek ep ee em eq ed ew =
+      let x : w ≡ withinOf f i = rw (ew, em, eq, ed, ek) refl in
+      rw (ek, ep, ee, em, x) at t
+
+  pub core-line : (k q d x : ℕ) → Capped most out at (field the.core k space ++ field the.pivot q space ++ field the.divisor d space ++ field the.load x lineFeed) new after
+      → q ≡ f .pivot k → d ≡ f .divisor k → x ≡ loadOf f k → Capped most out at (coreLine f k) new after
+  unfolding coreLine
+  core-line k q d x t eq ed ex = rw (eq, ed, ex) at t
+
+-- one more line
+lines-append : (line : ℕ → List ℕ) (l m : List ℕ) → lines line (l ++ m) ≡ lines line l ++ lines line m
+unfolding lines
+lines-append line [] m = refl
+lines-append line (i ∷ l) m = rw (lines-append line l m) (sym (append-assoc (line i) (lines line l) (lines line m)))
+
+lines-last : (line : ℕ → List ℕ) (i : ℕ) → lines line (numbers 0 (i + 1)) ≡ lines line (numbers 0 i) ++ line i
+unfolding lines
+lines-last line i =
+    rw (add-one i, numbers-last 0 i, zero-add i)
+    (lines-append line (numbers 0 i) (i ∷ []) ∙ ap (λ (t : List ℕ). lines line (numbers 0 i) ++ t) (append-nil (line i)))
+
+module _ (line : ℕ → List ℕ) (most : ℕ) (out : List ℕ) (at : ℕ) where
+  pub lines-start : (n : ℕ) → at + most * n ≤ length out → Capped (most * 0) out at (lines line (numbers 0 0)) out at
+  unfolding lines numbers
+  lines-start n h = rw (mul-zero most) (capped-none out at (omega arith))
+
+  pub lines-turn : (mid new : List ℕ) (next after i : ℕ) → Capped most mid next (line i) new after → Capped (most * i) out at (lines line (numbers 0 i)) mid next → Capped (most * (i + 1)) out at (lines line (numbers 0 (i + 1))) new after
+  lines-turn mid new next after i q p =
+      let e : most * (i + 1) ≡ most * i + most = omega (arith, mul-add most i 1, mul-one most) in
+      rw (lines-last line i, e) (capped-join q p)
+
+  pub lines-end : (new : List ℕ) (after i n : ℕ) → i ≤ n → n ≤ i → Capped (most * i) out at (lines line (numbers 0 i)) new after → Capped (most * n) out at (lines line (numbers 0 n)) new after
+  lines-end new after i n a b p =
+      let e : i ≡ n = omega arith in
+      rw e at p

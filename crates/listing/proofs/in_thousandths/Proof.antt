@@ -1,0 +1,29 @@
+use borrow.Author.Needs.{needs}
+use native.Mathlib.Omega.{arith}
+use mathlib.Core.Path.{refl}
+use Rattle.listing.specs.Listing.{thousandths}
+use Rattle.listing.proofs.Figures.{thousand}
+use Rattle.listing.proofs.in_thousandths.Statement.{statement}
+use Rattle.listing.proofs.in_thousandths.Tie as tie
+use Rattle.listing.proofs.in_thousandths.Reads as reads
+use Rattle.listing.proofs.in_thousandths.Lts as lts
+
+-- src/lib.rt:138:6
+mul-result : tie.Need-mul-result
+mul-result c = search needs
+
+-- src/lib.rt:138:6
+div-result : tie.Need-div-result
+div-result c = search needs
+
+-- src/lib.rt:138:5
+cast-result : tie.Need-cast-result
+cast-result c = omega (arith, thousand (c .args .load) (c .args .full) (omega arith))
+
+-- src/lib.rt:134:1
+returns : tie.Need-returns
+unfolding thousandths
+returns c = refl
+
+pub in-thousandths-spec : {M : Type 1} → statement M
+in-thousandths-spec = tie.close (tie.spec mul-result div-result cast-result returns)

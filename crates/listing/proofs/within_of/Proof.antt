@@ -1,0 +1,26 @@
+use borrow.Author.Needs.{needs}
+use Rattle.listing.proofs.Figures.{within-found, within-cast}
+use Rattle.listing.proofs.within_of.Statement.{statement}
+use Rattle.listing.proofs.within_of.Tie as tie
+use Rattle.listing.proofs.within_of.Reads as reads
+use Rattle.listing.proofs.within_of.Lts as lts
+use Rattle.listing.proofs.product.Reads as product-reads
+
+-- src/lib.rt:106:6
+product-requires : tie.Need-product-requires
+product-requires c κs = search needs
+
+-- src/lib.rt:106:6
+div-result : tie.Need-div-result
+div-result c = search needs
+
+-- src/lib.rt:106:5
+cast-result : tie.Need-cast-result
+cast-result c = search within-cast
+
+-- src/lib.rt:102:1
+returns : tie.Need-returns
+returns c = search within-found
+
+pub within-of-spec : {M : Type 1} → statement M
+within-of-spec = tie.close (tie.spec product-requires div-result cast-result returns)

@@ -1,0 +1,39 @@
+-- What the call answers and what the lent buffer then holds; and what the code's own steps write.
+use Prim.Native.Nat.{ℕ, _+_, _≤_}
+use mathlib.Core.Path.{_≡_}
+use mathlib.Core.Bool.{cond}
+use mathlib.Core.List.{List, _++_}
+use lib.ListN.{length, take, drop}
+use lib.Dec.{ltb}
+use Rattle.listing.specs.declared.Listed.{Listed}
+use Rattle.listing.specs.declared.Listed.the-variants.{Written, Tight}
+use Rattle.listing.specs.Listing.{listingOf}
+
+-- the length of the text, or a refusal's number and place
+pub data Answer : Type 0 where
+  written : ℕ → Answer
+  refused : ℕ → ℕ → Answer
+
+-- an output under 8,192 bytes is Tight (16), else the text is written
+unfoldable pub listed : List ℕ → List ℕ → Answer
+listed s out = cond (ltb (length out) 8192) (refused 16 0) (written (length (listingOf s)))
+
+-- the text stands at the front, and the bytes past it keep what they held; a refusal writes no byte
+unfoldable pub holding : List ℕ → List ℕ → List ℕ
+holding s out = cond (ltb (length out) 8192) out (listingOf s ++ drop (length (listingOf s)) out)
+
+-- the code's answer: Tight is 16 with place 0
+abbrev pub answerOf : Listed → Answer
+answerOf (Written n) = written n
+answerOf Tight = refused 16 0
+
+-- a text is written into a buffer from a place on, and nothing else
+pub record Put (out : List ℕ) (at : ℕ) (text new : List ℕ) (after : ℕ) : Type 0 where
+  pub bytes : new ≡ take at out ++ (text ++ drop after out)
+  pub next : after ≡ at + length text
+  pub room : after ≤ length out
+
+-- the same of a text of at most so many bytes
+pub record Capped (most : ℕ) (out : List ℕ) (at : ℕ) (text new : List ℕ) (after : ℕ) : Type 0 where
+  pub put : Put out at text new after
+  pub cap : after ≤ at + most

@@ -1,0 +1,16 @@
+-- Numbers as the listing prints them.
+use Prim.Native.Nat.{ℕ, zero, suc, _+_, _/_, _%_}
+use mathlib.Core.Bool.{cond}
+use mathlib.Core.List.{List, [], _∷_, _++_}
+use lib.Dec.{ltb}
+
+-- The decimal digits of x, the highest first, as ASCII codes ('0' is 48): a number below 10 is one digit, any other has the digits of
+-- its tenth, then its last digit. The first argument bounds the digits; any bound above x gives all of them.
+unfoldable pub digits : ℕ → ℕ → List ℕ
+digits zero x = []
+digits (suc k) x =
+    let rest : List ℕ = digits k (x / 10) in
+    cond (ltb x 10) ((48 + x) ∷ []) (rest ++ (48 + x % 10) ∷ [])
+
+unfoldable pub decimal : ℕ → List ℕ
+decimal x = digits (suc x) x

@@ -1,0 +1,74 @@
+-- Document 01, "The listing": the text of any bytes, as ASCII codes. Every line ends with a line feed.
+use Prim.Native.Nat.{ℕ, _*_, _/_}
+use mathlib.Core.List.{List, [], _∷_, _++_}
+use Rattle.sheet.specs.Numbers.{word}
+use Rattle.sheet.specs.Records.{Figures, figures}
+use Rattle.fit.specs.Lists.{numbers}
+use Rattle.fit.specs.Fits.{within, load, lastFactor}
+use Rattle.checker.specs.Tests.{orderOn}
+use Rattle.checker.specs.Verdict.{Outcome, accepted, refused, verdict}
+use Rattle.listing.specs.Decimal.{decimal}
+use Rattle.listing.specs.Words.{space, lineFeed}
+use Rattle.listing.specs.Words as the
+
+-- a word and a number, then a space or the line feed
+unfoldable pub field : List ℕ → ℕ → ℕ → List ℕ
+field w x end = w ++ decimal x ++ end ∷ []
+
+-- "The header gives mark, version and counts"
+unfoldable pub headerLine : ℕ → ℕ → ℕ → List ℕ
+headerLine version n c = field the.mark version space ++ field the.tasks n space ++ field the.cores c lineFeed
+
+-- '"within" is w', with Q and D of the task's core
+unfoldable pub withinOf : Figures → ℕ → ℕ
+withinOf f i = within (f .pivot (f .core i)) (f .divisor (f .core i)) (f .factor i)
+
+unfoldable pub taskLine : Figures → ℕ → List ℕ
+taskLine f i =
+    field the.task i space
+    ++ field the.core (f .core i) space
+    ++ field the.period (f .period i) space
+    ++ field the.budget (f .budget i) space
+    ++ field the.factor (f .factor i) space
+    ++ field the.within (withinOf f i) lineFeed
+
+-- a load in thousandths of a full one, "rounded down"
+unfoldable pub thousandths : ℕ → ℕ → ℕ
+thousandths load full = 1000 * load / full
+
+-- '"load" is the load in thousandths, rounded down': the exact load of core k, which is full at Q × L
+unfoldable pub loadOf : Figures → ℕ → ℕ
+loadOf f k =
+    thousandths (load (f .budget) (f .factor) (f .divisor k) (lastFactor (f .factor) 1 (orderOn f k)) (orderOn f k))
+    (f .pivot k * lastFactor (f .factor) 1 (orderOn f k))
+
+unfoldable pub coreLine : Figures → ℕ → List ℕ
+coreLine f k =
+    field the.core k space
+    ++ field the.pivot (f .pivot k) space
+    ++ field the.divisor (f .divisor k) space
+    ++ field the.load (loadOf f k) lineFeed
+
+-- one line for each of a list of numbers
+unfoldable pub lines : (ℕ → List ℕ) → List ℕ → List ℕ
+lines line [] = []
+lines line (i ∷ l) = line i ++ lines line l
+
+-- the header, the tasks by number, the cores by number
+unfoldable pub sheetText : ℕ → Figures → List ℕ
+sheetText version f =
+    headerLine version (f .tasks) (f .cores)
+    ++ lines (taskLine f) (numbers 0 (f .tasks))
+    ++ lines (coreLine f) (numbers 0 (f .cores))
+
+-- "A refused sheet prints one line"
+unfoldable pub refusedLine : ℕ → ℕ → List ℕ
+refusedLine number place = field the.refused number space ++ field the.place place lineFeed
+
+unfoldable pub textOf : Outcome → List ℕ → List ℕ
+textOf (accepted n c) s = sheetText (word s 3) (figures s)
+textOf (refused number place) s = refusedLine number place
+
+-- the text of any bytes
+unfoldable pub listingOf : List ℕ → List ℕ
+listingOf s = textOf (verdict s) s

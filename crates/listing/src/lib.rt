@@ -1,0 +1,222 @@
+// The listing of a sheet: the text of any bytes, written into a lent buffer.
+// `tasks` is the sheet's part from byte 8, `cores` its part after the last task.
+ghost use mathlib.Core.Path.{_≡_};
+ghost use Prim.Native.Nat.{_+_, _*_, _%_, _<_, _≤_};
+ghost use mathlib.Core.List.{[], _∷_};
+ghost use lib.ListN.{length};
+ghost use Rattle.sheet.specs.Numbers.{word};
+ghost use Rattle.sheet.specs.Records.{figuresOf, figures};
+ghost use Rattle.fit.specs.Lists.{numbers};
+ghost use Rattle.fit.specs.Fits.{within};
+ghost use Rattle.checker.specs.Accepted.{Fitting};
+ghost use Rattle.checker.specs.Verdict.{verdict, accepted};
+ghost use Rattle.listing.specs.Decimal.{decimal};
+ghost use Rattle.listing.specs.Listing.{field, headerLine, taskLine, thousandths, loadOf, coreLine, lines, sheetText, refusedLine};
+ghost use Rattle.listing.specs.Answers.{Put, Capped, listed, holding, answerOf};
+use checker::Verdict;
+use fit::Chain;
+
+// The length of the text, or an output that could be too short for some sheet's text.
+pub enum Listed {
+    Written(u16),
+    Tight,
+}
+
+// Writers. Each puts a text into `out` from `at` on and returns the place after it.
+
+fn put_byte(out: &mut [u8], at: usize, b: u8) -> usize
+    requires { ⌜ at < length (now out) ⌝ }
+    ensures { λ r. ⌜ Put (now (out .entry)) at (b ∷ []) (now (out .exit)) r ⌝ }
+{
+    out[at] = b;
+    at + 1
+}
+
+fn put_word(out: &mut [u8], at: usize, text: &[u8]) -> usize
+    requires { ⌜ at + length (now text) ≤ length (now out) ⌝ }
+    ensures { λ r. ⌜ Put (now (out .entry)) at (now (text .entry)) (now (out .exit)) r ⌝ }
+{
+    let mut next = at;
+    let mut i = 0;
+    while i < text.len() {
+        let after = put_byte(out, next, text[i]);
+        next = after;
+        i += 1;
+    }
+    next
+}
+
+// The last decimal digit.
+fn digit(x: u32) -> u8
+    ensures { λ r. ⌜ r ≡ 48 + x % 10 ⌝ }
+{
+    48 + (x % 10) as u8
+}
+
+fn put_number(out: &mut [u8], at: usize, x: u32) -> usize
+    requires { ⌜ at + length (decimal x) ≤ length (now out) ⌝ }
+    ensures { λ r. ⌜ Put (now (out .entry)) at (decimal x) (now (out .exit)) r ⌝ }
+{
+    if x < 10 {
+        return put_byte(out, at, digit(x));
+    }
+    let next = put_number(out, at, x / 10);
+    put_byte(out, next, digit(x))
+}
+
+// A word with its space, a number, and the byte that ends the field: at most 8 bytes, 10 digits and 1 byte.
+fn put_field(out: &mut [u8], at: usize, text: &[u8], x: u32, end: u8) -> usize
+    requires { ⌜ (length (now text) ≤ 8) × (at + 19 ≤ length (now out)) ⌝ }
+    ensures { λ r. ⌜ Capped 19 (now (out .entry)) at (field (now (text .entry)) x end) (now (out .exit)) r ⌝ }
+{
+    let next = put_word(out, at, text);
+    let next = put_number(out, next, x);
+    put_byte(out, next, end)
+}
+
+// The lines, of 2, 3, 6 and 4 fields.
+
+fn put_refused(out: &mut [u8], number: u8, place: u16) -> usize
+    requires { ⌜ 38 ≤ length (now out) ⌝ }
+    ensures { λ r. ⌜ Capped 38 (now (out .entry)) 0 (refusedLine number place) (now (out .exit)) r ⌝ }
+{
+    let next = put_field(out, 0, b"refused ", number as u32, b' ');
+    put_field(out, next, b"place ", place as u32, b'\n')
+}
+
+fn put_header(out: &mut [u8], version: u16, n: u8, c: u8) -> usize
+    requires { ⌜ 57 ≤ length (now out) ⌝ }
+    ensures { λ r. ⌜ Capped 57 (now (out .entry)) 0 (headerLine version n c) (now (out .exit)) r ⌝ }
+{
+    let next = put_field(out, 0, b"TSH ", version as u32, b' ');
+    let next = put_field(out, next, b"tasks ", n as u32, b' ');
+    put_field(out, next, b"cores ", c as u32, b'\n')
+}
+
+// The product of a period and a factor.
+fn product(q: u16, m: u32) -> u64
+    ensures { λ r. ⌜ r ≡ q * m ⌝ }
+{
+    (q as u64) * (m as u64)
+}
+
+// The whole part of q * m / d.
+fn within_of(q: u16, m: u32, d: u32) -> u32
+    requires { ⌜ (0 < d) × (within q d m ≤ 60000) ⌝ }
+    ensures { λ r. ⌜ r ≡ within q d m ⌝ }
+{
+    (product(q, m) / (d as u64)) as u32
+}
+
+fn put_task(out: &mut [u8], at: usize, tasks: &[u8], cores: &[u8], n: u8, c: u8, i: u8) -> usize
+    requires { ⌜ Fitting (figuresOf n c (now tasks) (now cores)) × (i < n) × (at + 114 ≤ length (now out)) ⌝ }
+    ensures { λ r. ⌜ Capped 114 (now (out .entry)) at (taskLine (figuresOf n c (now (tasks .entry)) (now (cores .entry))) i) (now (out .exit)) r ⌝ }
+{
+    let k = sheet::core(tasks, i);
+    let p = sheet::period(tasks, i) as u32;
+    let e = sheet::budget(tasks, i) as u32;
+    let m = sheet::factor(tasks, i);
+    let w = within_of(sheet::pivot(cores, k), m, sheet::divisor(cores, k));
+    let next = put_field(out, at, b"task ", i as u32, b' ');
+    let next = put_field(out, next, b"core ", k as u32, b' ');
+    let next = put_field(out, next, b"period ", p, b' ');
+    let next = put_field(out, next, b"budget ", e, b' ');
+    let next = put_field(out, next, b"factor ", m, b' ');
+    put_field(out, next, b"within ", w, b'\n')
+}
+
+fn put_tasks(out: &mut [u8], at: usize, tasks: &[u8], cores: &[u8], n: u8, c: u8) -> usize
+    requires { ⌜ Fitting (figuresOf n c (now tasks) (now cores)) × (at + 114 * n ≤ length (now out)) ⌝ }
+    ensures { λ r. ⌜ Capped (114 * n) (now (out .entry)) at (lines (taskLine (figuresOf n c (now (tasks .entry)) (now (cores .entry)))) (numbers 0 n)) (now (out .exit)) r ⌝ }
+{
+    let mut next = at;
+    let mut i = 0;
+    while i < n {
+        let after = put_task(out, next, tasks, cores, n, c, i);
+        next = after;
+        i += 1;
+    }
+    next
+}
+
+// A load in thousandths of a full one, rounded down.
+fn in_thousandths(load: u64, full: u64) -> u32
+    requires { ⌜ (0 < full) × (load ≤ full) × (full ≤ 7_200_000_000) ⌝ }
+    ensures { λ r. ⌜ r ≡ thousandths load full ⌝ }
+{
+    (1000 * load / full) as u32
+}
+
+// The load of core k in thousandths.
+fn load_of(tasks: &[u8], cores: &[u8], n: u8, c: u8, k: u8) -> u32
+    requires { ⌜ Fitting (figuresOf n c (now tasks) (now cores)) × (n ≤ 64) × (k < c) ⌝ }
+    ensures { λ r. ⌜ r ≡ loadOf (figuresOf n c (now (tasks .entry)) (now (cores .entry))) k ⌝ }
+{
+    let order = fit::in_order(tasks, n, k);
+    let count = order.count;
+    let list = order.tasks;
+    let chain = fit::chain_of(tasks, &list[..count]);
+    match chain {
+        Chain::Broken(_) => 0,
+        Chain::Whole(last) => {
+            let load = fit::load_of(tasks, &list[..count], sheet::divisor(cores, k), last);
+            in_thousandths(load, product(sheet::pivot(cores, k), last))
+        }
+    }
+}
+
+fn put_core(out: &mut [u8], at: usize, tasks: &[u8], cores: &[u8], n: u8, c: u8, k: u8) -> usize
+    requires { ⌜ Fitting (figuresOf n c (now tasks) (now cores)) × (n ≤ 64) × (k < c) × (at + 76 ≤ length (now out)) ⌝ }
+    ensures { λ r. ⌜ Capped 76 (now (out .entry)) at (coreLine (figuresOf n c (now (tasks .entry)) (now (cores .entry))) k) (now (out .exit)) r ⌝ }
+{
+    let load = load_of(tasks, cores, n, c, k);
+    let next = put_field(out, at, b"core ", k as u32, b' ');
+    let next = put_field(out, next, b"pivot ", sheet::pivot(cores, k) as u32, b' ');
+    let next = put_field(out, next, b"divisor ", sheet::divisor(cores, k), b' ');
+    put_field(out, next, b"load ", load, b'\n')
+}
+
+fn put_cores(out: &mut [u8], at: usize, tasks: &[u8], cores: &[u8], n: u8, c: u8) -> usize
+    requires { ⌜ Fitting (figuresOf n c (now tasks) (now cores)) × (n ≤ 64) × (at + 76 * c ≤ length (now out)) ⌝ }
+    ensures { λ r. ⌜ Capped (76 * c) (now (out .entry)) at (lines (coreLine (figuresOf n c (now (tasks .entry)) (now (cores .entry)))) (numbers 0 c)) (now (out .exit)) r ⌝ }
+{
+    let mut next = at;
+    let mut k = 0;
+    while k < c {
+        let after = put_core(out, next, tasks, cores, n, c, k);
+        next = after;
+        k += 1;
+    }
+    next
+}
+
+// The text of an accepted sheet.
+fn put_sheet(out: &mut [u8], sheet: &[u8], n: u8, c: u8) -> usize
+    requires { ⌜ (verdict (now sheet) ≡ accepted n c) × (8192 ≤ length (now out)) ⌝ }
+    ensures { λ r. ⌜ Capped 8192 (now (out .entry)) 0 (sheetText (word (now (sheet .entry)) 3) (figures (now (sheet .entry)))) (now (out .exit)) r ⌝ }
+{
+    let tasks = &sheet[8..];
+    let at = 10 * (n as usize);
+    let cores = &tasks[at..];
+    let next = put_header(out, sheet::read_word(sheet, 3), n, c);
+    let next = put_tasks(out, next, tasks, cores, n, c);
+    put_cores(out, next, tasks, cores, n, c)
+}
+
+// Lists a sheet: the text of any bytes stands at the front of an output of at least 8,192 bytes, which is enough for every text.
+pub fn list_sheet(sheet: &[u8], out: &mut [u8]) -> Listed
+    ensures { λ r. ⌜ (answerOf r ≡ listed (now (sheet .entry)) (now (out .entry))) × (now (out .exit) ≡ holding (now (sheet .entry)) (now (out .entry))) ⌝ }
+{
+    if out.len() < 8192 {
+        return Listed::Tight;
+    }
+    let verdict = checker::check(sheet);
+    match verdict {
+        Verdict::Refused { word, place } => {
+            Listed::Written(put_refused(out, sheet::number(word), place) as u16)
+        }
+        Verdict::Accepted { tasks, cores } => {
+            Listed::Written(put_sheet(out, sheet, tasks, cores) as u16)
+        }
+    }
+}
