@@ -5,3 +5,4 @@ pub mod Priority
 pub mod Levels
 pub mod Finds
 pub mod Rings
+pub mod Selecting

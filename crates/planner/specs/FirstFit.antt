@@ -3,22 +3,19 @@ use Prim.Native.Nat.{ℕ, _+_}
 use mathlib.Core.Bool.{Bool, true, false, cond}
 use mathlib.Core.Option.{Option, none, some}
 use mathlib.Core.List.{List, [], _∷_, _++_, map}
-use lib.ListN.{getD, set, take, drop, replicate}
+use lib.ListN.{set, take, drop, replicate}
 use lib.Dec.{ltb}
 use Rattle.fit.specs.Lists.{numbers, find}
 use Rattle.fit.specs.Priority.{order}
 use Rattle.figures.specs.Constructions.{Acceleration, at}
-use Rattle.figures.specs.Passing.{figuresOf}
+use Rattle.figures.specs.Passing.{firstPassing}
+use Rattle.planner.specs.declared.Assignment.{Assignment}
 
 -- "The start is a position in this order; the list is walked once round from there."
 unfoldable pub rotate : ℕ → List ℕ → List ℕ
 rotate start l = drop start l ++ take start l
 
--- the core of each task by number, 255 for a task that has none yet, and how many cores are open
-pub record Assignment : Type 0 where
-  pub core : List ℕ
-  pub cores : ℕ
-
+-- An assignment has the core of each task by number, 255 for a task that has none yet, and how many cores are open.
 unfoldable pub unassigned : Assignment
 unassigned = record { core = replicate 64 255; cores = 0 }
 
@@ -28,7 +25,7 @@ coreSet p n core k = order p (at core) k n
 
 -- the figures of core k, if one of the constructions passes
 unfoldable pub coreFigures : (ℕ → ℕ) → (ℕ → ℕ) → ℕ → List ℕ → ℕ → Option Acceleration
-coreFigures p e n core k = figuresOf (map p (coreSet p n core k)) (map e (coreSet p n core k))
+coreFigures p e n core k = firstPassing (map p (coreSet p n core k)) (map e (coreSet p n core k))
 
 unfoldable pub isSome : Option Acceleration → Bool
 isSome none = false

@@ -1,16 +1,18 @@
 -- Document 01, "The planner": its refusals in order, its answer, and what it leaves in the lent buffer.
 use Prim.Native.Nat.{ℕ}
+use mathlib.Core.Path.{_≡_}
 use mathlib.Core.Bool.{Bool, not, cond}
 use mathlib.Core.Option.{Option, none, some}
 use mathlib.Core.List.{List, [], _∷_, _++_}
-use lib.ListN.{length, drop}
+use lib.ListN.{length, take, drop}
 use lib.Dec.{leb, ltb, eqb}
 use Rattle.sheet.specs.Refusals.{numberOf}
 use Rattle.sheet.specs.Table.{Refused, Row, _at_, scan, whole}
 use Rattle.fit.specs.declared.By.the-variants.{Ring}
 use Rattle.fit.specs.Ring.{orderBy}
 use Rattle.jobs.specs.Jobs.{jobCount, jobPeriod, jobBudget, listRows}
-use Rattle.planner.specs.FirstFit.{rotate, Assignment, unassigned, Fit, placed, unplaced, firstFit}
+use Rattle.checker.specs.Verdict.{verdict, accepted}
+use Rattle.planner.specs.FirstFit.{rotate, unassigned, Fit, placed, unplaced, firstFit}
 use Rattle.planner.specs.Sheet.{sheetOf}
 use Rattle.planner.specs.declared.Planned.{Planned}
 use Rattle.planner.specs.declared.Planned.the-variants.{Written, Refused as Turned}
@@ -29,11 +31,12 @@ unfoldable pub noFit : Fit → Option ℕ
 noFit (placed a) = none
 noFit (unplaced i) = some i
 
--- "Order of refusals: 5 .., 4 .., 7, 8, 22, 16, 15."
+-- "Order of refusals: 5 .., 4 .., 7, 8, 22, 16, 15." All but 15 are told before any core is looked for.
+unfoldable pub callRows : List ℕ → ℕ → ℕ → ℕ → List Row
+callRows l limit start room = listRows limit l ++ (22 at whole (badStart (jobCount l) start) ∷ 16 at whole (ltb room 712) ∷ [])
+
 unfoldable pub planRows : List ℕ → ℕ → ℕ → ℕ → List Row
-planRows l limit start room =
-    listRows limit l
-    ++ (22 at whole (badStart (jobCount l) start) ∷ 16 at whole (ltb room 712) ∷ 15 at noFit (fitOf l limit start) ∷ [])
+planRows l limit start room = callRows l limit start room ++ (15 at noFit (fitOf l limit start) ∷ [])
 
 -- the sheet of a plan, and its number of cores
 unfoldable pub sheetFor : List ℕ → Fit → List ℕ
@@ -58,9 +61,13 @@ planOutcome l limit start room =
     unless (scan (planRows l limit start room))
     (written (jobCount l) (coresFor (fitOf l limit start)) (length (sheetFor l (fitOf l limit start))))
 
--- "Bytes past the sheet's end keep what they held", and a refusal writes no byte
+-- "Bytes past the sheet's end keep what they held"
+unfoldable pub over : List ℕ → List ℕ → List ℕ
+over s out = s ++ drop (length s) out
+
+-- a refusal writes no byte
 unfoldable pub laidOver : Option Refused → List ℕ → List ℕ → List ℕ
-laidOver none s out = s ++ drop (length s) out
+laidOver none s out = over s out
 laidOver (some r) s out = out
 
 unfoldable pub planOutput : List ℕ → ℕ → ℕ → List ℕ → List ℕ
@@ -70,3 +77,8 @@ planOutput l limit start out = laidOver (scan (planRows l limit start (length ou
 abbrev pub outcomeOf : Planned → Outcome
 outcomeOf (Written n c s) = written n c s
 outcomeOf (Turned w p) = refused (numberOf w) p
+
+-- the checker accepts what was written, with the answer's counts
+abbrev pub Accepting : Planned → List ℕ → Type 0
+Accepting (Written n c s) out = verdict (take s out) ≡ accepted n c
+Accepting (Turned w p) out = Unit {0}

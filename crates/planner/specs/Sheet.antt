@@ -1,12 +1,13 @@
 -- Document 01, "The sheet, mark TSH, version 1" and "Written form": the bytes of the sheet for an assignment of tasks to cores.
-use Prim.Native.Nat.{ℕ, suc, _*_, _/_, _%_}
+use Prim.Native.Nat.{ℕ, suc, _/_, _%_}
 use mathlib.Core.Bool.{cond}
 use mathlib.Core.Option.{Option, none, some}
 use mathlib.Core.List.{List, [], _∷_, _++_}
 use lib.Dec.{eqb}
 use Rattle.fit.specs.Lists.{numbers}
 use Rattle.figures.specs.Constructions.{Acceleration, at}
-use Rattle.planner.specs.FirstFit.{Assignment, coreSet, coreFigures}
+use Rattle.planner.specs.declared.Assignment.{Assignment}
+use Rattle.planner.specs.FirstFit.{coreSet, coreFigures}
 
 -- "Numbers of two or four bytes are unsigned, low byte first."
 unfoldable pub two : ℕ → List ℕ

@@ -1,0 +1,10 @@
+pub mod Gathering
+pub mod Fitting
+pub mod Rating
+pub mod Writing
+pub mod Calls
+pub mod Settling
+pub mod Decoding
+pub mod Accepting
+pub mod Planning
+pub mod Cards

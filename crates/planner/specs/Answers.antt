@@ -1,0 +1,64 @@
+-- What the code's own steps ask, and what they give.
+use Prim.Native.Nat.{ℕ, suc, _≤_, _<_}
+use mathlib.Core.Path.{_≡_}
+use mathlib.Core.Bool.{Bool}
+use mathlib.Core.List.{List, [], _∷_, map}
+use lib.ListN.{length, take, set}
+use lib.Dec.{eqb}
+use Rattle.sheet.specs.declared.Found.{Found}
+use Rattle.sheet.specs.declared.Found.the-variants.{At, Nothing}
+use Rattle.fit.specs.declared.By.the-variants.{Period}
+use Rattle.fit.specs.Ring.{orderBy}
+use Rattle.jobs.specs.Jobs.{jobCount, jobPeriod, jobBudget}
+use Rattle.figures.specs.Constructions.{at}
+use Rattle.planner.specs.declared.Assignment.{Assignment}
+use Rattle.planner.specs.declared.Fitted.{Fitted}
+use Rattle.planner.specs.declared.Rates.{Rates}
+use Rattle.planner.specs.declared.TaskSet.{TaskSet}
+use Rattle.planner.specs.FirstFit.{Fit, placed, unplaced}
+use Rattle.planner.specs.Sheet.{taskRecord, coreRecord, figuresFor, factorFor}
+
+-- the tasks of a list that has at most 64, in priority order
+pub record Prioritized (l order : List ℕ) : Type 0 where
+  pub few : jobCount l ≤ 64
+  pub tasks : order ≡ orderBy Period (jobPeriod l) (jobCount l)
+
+-- every task of a list has one of at most 8 open cores
+pub record Assigned (l : List ℕ) (a : Assignment) : Type 0 where
+  pub few : a .cores ≤ 8
+  pub core : (i : ℕ) → i < jobCount l → at (a .core) i < a .cores
+
+-- task i is on core k
+unfoldable pub on : List ℕ → ℕ → ℕ → Bool
+on core k i = eqb (at core i) k
+
+-- the periods and budgets of listed tasks stand at the front of their arrays
+pub record Gathered (l tasks : List ℕ) (s : TaskSet) : Type 0 where
+  pub periods : take (length tasks) (s .periods) ≡ map (jobPeriod l) tasks
+  pub budgets : take (length tasks) (s .budgets) ≡ map (jobBudget l) tasks
+
+-- the outcome of a walk: the task that found no core, or the assignment
+unfoldable pub fitBy : Found → Assignment → Fit
+fitBy (At i) a = unplaced i
+fitBy Nothing a = placed a
+
+unfoldable pub fitted : Fitted → Fit
+fitted f = fitBy (f .unplaced) (f .assignment)
+
+-- factors by task number, with those of the listed tasks from place m of their core on
+unfoldable pub spread : List ℕ → List ℕ → ℕ → List ℕ → List ℕ
+spread own [] m factors = factors
+spread own (i ∷ l) m factors = spread own l (suc m) (set factors i (at own m))
+
+-- the figures of an assignment's cores and tasks
+pub record Rated (l : List ℕ) (a : Assignment) (r : Rates) : Type 0 where
+  pub pivot : (k : ℕ) → k < a .cores → at (r .pivots) k ≡ figuresFor (jobPeriod l) (jobBudget l) (jobCount l) a k .Q
+  pub divisor : (k : ℕ) → k < a .cores → at (r .divisors) k ≡ figuresFor (jobPeriod l) (jobBudget l) (jobCount l) a k .D
+  pub factor : (i : ℕ) → i < jobCount l → at (r .factors) i ≡ factorFor (jobPeriod l) (jobBudget l) (jobCount l) a i
+
+-- the record of task i and of core k, from arrays
+unfoldable pub taskBytes : List ℕ → List ℕ → List ℕ → ℕ → List ℕ
+taskBytes l core factors i = taskRecord (jobPeriod l i) (jobBudget l i) (at core i) (at factors i)
+
+unfoldable pub coreBytes : List ℕ → List ℕ → ℕ → List ℕ
+coreBytes pivots divisors k = coreRecord (at pivots k) (at divisors k)
