@@ -3,5 +3,4 @@ pub mod Bare
 pub mod Judging
 pub mod Clear
 pub mod Acceptance
-pub mod Cards
 pub mod Sound

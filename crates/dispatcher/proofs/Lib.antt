@@ -7,4 +7,3 @@ pub mod Outcomes
 pub mod Logs
 pub mod Schedule
 pub mod Starts
-pub mod Cards

@@ -1,4 +1,3 @@
-pub mod Cards
 pub mod Lists
 pub mod Powers
 pub mod Ceiling

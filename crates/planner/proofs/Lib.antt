@@ -7,4 +7,3 @@ pub mod Settling
 pub mod Decoding
 pub mod Accepting
 pub mod Planning
-pub mod Cards

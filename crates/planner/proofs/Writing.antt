@@ -123,8 +123,11 @@ module _ (l : List ℕ) (a : Assignment) (r : Rates) (n : ℕ) (q : n ≡ jobCou
   sheet-parts : header n (a .cores) ++ (tasks ++ cores) ≡ sheetOf (jobPeriod l) (jobBudget l) (jobCount l) a
   unfolding sheetOf tasks cores taskBytes coreBytes
   sheet-parts =
-      rw (q, records-ext _ (λ i. taskRecord (jobPeriod l i) (jobBudget l i) (getD (a .core) i 0) (factorFor (jobPeriod l) (jobBudget l) (jobCount l) a i)) 0 (jobCount l) (λ i x y. ap (taskRecord (jobPeriod l i) (jobBudget l i) (getD (a .core) i 0)) (rated .factor i (rw zero-add at y))),
-      records-ext _ (λ k. coreRecord (figuresFor (jobPeriod l) (jobBudget l) (jobCount l) a k .Q) (figuresFor (jobPeriod l) (jobBudget l) (jobCount l) a k .D)) 0 (a .cores) (λ k x y. ap₂ coreRecord (rated .pivot k (rw zero-add at y)) (rated .divisor k (rw zero-add at y))))
+      rw (
+        q,
+        records-ext _ (λ i. taskRecord (jobPeriod l i) (jobBudget l i) (getD (a .core) i 0) (factorFor (jobPeriod l) (jobBudget l) (jobCount l) a i)) 0 (jobCount l) (λ i x y. ap (taskRecord (jobPeriod l i) (jobBudget l i) (getD (a .core) i 0)) (rated .factor i (rw zero-add at y))),
+        records-ext _ (λ k. coreRecord (figuresFor (jobPeriod l) (jobBudget l) (jobCount l) a k .Q) (figuresFor (jobPeriod l) (jobBudget l) (jobCount l) a k .D)) 0 (a .cores) (λ k x y. ap₂ coreRecord (rated .pivot k (rw zero-add at y)) (rated .divisor k (rw zero-add at y))),
+      )
 
   pub sheet-length : 8 + 10 * n + 8 * a .cores ≡ length (sheetOf (jobPeriod l) (jobBudget l) (jobCount l) a)
   unfolding header

@@ -185,7 +185,10 @@ fn assigned(a: Assignment, i: u8, k: u8) -> Assignment
     let cores = a.core;
     let core = with_core(cores, i, k);
     if k < opened {
-        return Assignment { core, cores: opened };
+        return Assignment {
+            core,
+            cores: opened,
+        };
     }
     Assignment {
         core,

@@ -1,0 +1,148 @@
+-- Document 01, "Bench cards": what each card says of the definitions.
+use Prim.Native.Nat.{ℕ}
+use mathlib.Core.Path.{_≡_}
+use mathlib.Core.List.{List, [], _∷_, _++_, map}
+use Rattle.sheet.specs.Table.{scan}
+use Rattle.sheet.specs.Records.{Figures, figures}
+use Rattle.fit.specs.declared.By.the-variants.{Ring}
+use Rattle.fit.specs.Lists.{numbers}
+use Rattle.fit.specs.Ring.{orderBy}
+use Rattle.fit.specs.Fits.{within}
+use Rattle.fit.specs.Answers.{at}
+use Rattle.checker.specs.Verdict.{verdict}
+use Rattle.checker.specs.Verdict as checker
+use Rattle.jobs.specs.Jobs.{listRows}
+use Rattle.figures.specs.Constructions.{sr}
+use Rattle.timing.specs.Calls.{Answer, release, finish, tick, accepted, served, refused, Entry, entry, log}
+use Rattle.timing.proofs.Runs.{calls}
+use Rattle.dispatcher.specs.declared.Core.{Core}
+use Rattle.dispatcher.specs.Operations.{ask, step}
+use Rattle.dispatcher.specs.Starts.{sheetAnswer, sheetState, listAnswer, listState}
+use Rattle.planner.specs.Plan.{fitOf, sheetFor, planOutcome}
+use Rattle.planner.specs.Plan as planner
+
+-- a header with n and c, and records of numbers below 256 on core 0
+abbrev pub header : (n c : ℕ) → List ℕ
+header n c = 0x54 ∷ 0x53 ∷ 0x48 ∷ 1 ∷ 0 ∷ n ∷ c ∷ 0 ∷ []
+
+abbrev pub task : (p e M : ℕ) → List ℕ
+task p e M = p ∷ 0 ∷ e ∷ 0 ∷ 0 ∷ 0 ∷ M ∷ 0 ∷ 0 ∷ 0 ∷ []
+
+abbrev pub core : (Q D : ℕ) → List ℕ
+core Q D = Q ∷ 0 ∷ 0 ∷ 0 ∷ D ∷ 0 ∷ 0 ∷ 0 ∷ []
+
+-- the listing's sheet with the last budget and the last factor given
+abbrev pub listed : (e M : ℕ) → List ℕ
+listed e M = header 3 1 ++ (task 3 1 1 ++ (task 7 1 2 ++ (task 13 e M ++ core 3 1)))
+
+-- seven bytes
+abbrev pub seven : List ℕ
+seven = 0x54 ∷ 0x53 ∷ 0x48 ∷ 1 ∷ 0 ∷ 0 ∷ 0 ∷ []
+
+-- an entry of a job list, and the lists of the cards
+abbrev pub job : (p e : ℕ) → List ℕ
+job p e = p ∷ 0 ∷ e ∷ 0 ∷ []
+
+abbrev pub jobsG : List ℕ
+jobsG = job 2 1 ++ (job 11 2 ++ job 17 4)
+
+abbrev pub jobsH : List ℕ
+jobsH = job 10 4 ++ job 15 9
+
+abbrev pub jobsI : List ℕ
+jobsI = job 5 1 ++ job 9 7
+
+abbrev pub jobsL : List ℕ
+jobsL = job 5 2 ++ job 7 4
+
+-- what the planner answers with limit 1, start 0 and room for any sheet, and the sheet that it makes
+abbrev pub answer : List ℕ → planner.Outcome
+answer l = planOutcome l 1 0 712
+
+abbrev pub sheetOf : List ℕ → List ℕ
+sheetOf l = sheetFor l (fitOf l 1 0)
+
+-- a plan: the answer, and of its sheet the figures of core 0 and the factor and w of every task
+pub record Plan : Type 0 where
+  pub answer : planner.Outcome
+  pub pivot : ℕ
+  pub divisor : ℕ
+  pub factors : List ℕ
+  pub w : List ℕ
+
+abbrev pub planWith : planner.Outcome → Figures → Plan
+planWith o f =
+    record {
+      answer = o;
+      pivot = f .pivot 0;
+      divisor = f .divisor 0;
+      factors = map (f .factor) (numbers 0 (f .tasks));
+      w = map (λ i. within (f .pivot 0) (f .divisor 0) (f .factor i)) (numbers 0 (f .tasks));
+    }
+
+abbrev pub plan : List ℕ → Plan
+plan l = planWith (answer l) (figures (sheetOf l))
+
+-- what a start answers, and the log of calls after it
+pub record Run : Type 0 where
+  pub start : Answer
+  pub log : List Entry
+
+-- the definitions' run of the calls that a log has, on core 0 of a sheet and on the bench
+abbrev pub runFrom : Answer → Core → List Entry → Run
+runFrom a s l = record { start = a; log = log ask step s (calls l) }
+
+abbrev pub onSheet : List ℕ → List Entry → Run
+onSheet s l = runFrom (sheetAnswer (verdict s) 0) (sheetState (verdict s) s 0) l
+
+abbrev pub onBench : List ℕ → List Entry → Run
+onBench jobs l = runFrom (listAnswer (scan (listRows 0 jobs))) (listState (scan (listRows 0 jobs)) jobs) l
+
+-- an accepted start, and a log
+abbrev pub run : List Entry → Run
+run l = record { start = accepted; log = l }
+
+abbrev pub releases : ℕ → Entry
+releases j = entry (release j) accepted
+
+abbrev pub serves : ℕ → Entry
+serves j = entry tick (served j)
+
+-- both released, ticks 0,1,1,1,1, release 0, then 0,1,1,1; after the ninth tick task 1 is not pending
+abbrev pub logJ : List Entry
+logJ =
+    releases 0 ∷ releases 1 ∷ serves 0 ∷ serves 1 ∷ serves 1 ∷ serves 1 ∷ serves 1
+    ∷ releases 0 ∷ serves 0 ∷ serves 1 ∷ serves 1 ∷ serves 1 ∷ entry (finish 1) (refused 20 1) ∷ []
+
+-- both released, task 0 again after four ticks
+abbrev pub logK : List Entry
+logK = releases 0 ∷ releases 1 ∷ serves 0 ∷ serves 1 ∷ serves 1 ∷ serves 1 ∷ entry (release 0) (refused 18 0) ∷ []
+
+-- both released, 0 again after five ticks, task 1 after seven
+abbrev pub logL : List Entry
+logL =
+    releases 0 ∷ releases 1 ∷ serves 0 ∷ serves 0 ∷ serves 1 ∷ serves 1 ∷ serves 1
+    ∷ releases 0 ∷ serves 0 ∷ serves 0 ∷ entry (release 1) (refused 19 1) ∷ []
+
+-- the periods of a list in ring order
+abbrev pub ring : List ℕ → ℕ → List ℕ
+ring ps n = map (at ps) (orderBy Ring (at ps) n)
+
+-- the cards
+pub record Cards : Type 0 where
+  pub A : verdict (header 0 0) ≡ checker.accepted 0 0
+  pub B : verdict (listed 6 4) ≡ checker.accepted 3 1
+  pub C : verdict (listed 7 4) ≡ checker.refused 14 64
+  pub D : verdict (listed 6 5) ≡ checker.refused 12 2
+  pub E : verdict (listed 6 3) ≡ checker.refused 13 2
+  pub F : verdict seven ≡ checker.refused 1 0
+  -- the figures are those of Sr with the first task as pivot
+  pub G :
+      (plan jobsG ≡ record { answer = planner.written 3 1 46; pivot = 2; divisor = 1; factors = 1 ∷ 4 ∷ 8 ∷ []; w = 2 ∷ 8 ∷ 16 ∷ [] })
+      × (sr 2 (2 ∷ 11 ∷ 17 ∷ []) 0 ≡ record { Q = 2; D = 1; factors = 1 ∷ 4 ∷ 8 ∷ [] })
+  pub H : answer jobsH ≡ planner.refused 15 1
+  pub I : plan jobsI ≡ record { answer = planner.written 2 1 36; pivot = 9; divisor = 2; factors = 1 ∷ 2 ∷ []; w = 4 ∷ 9 ∷ [] }
+  pub J : onSheet (sheetOf jobsI) logJ ≡ run logJ
+  pub K : onSheet (sheetOf jobsI) logK ≡ run logK
+  pub L : onBench jobsL logL ≡ run logL
+  pub M : ring (7 ∷ 16 ∷ 21 ∷ []) 3 ≡ 16 ∷ 21 ∷ 7 ∷ []

@@ -1,0 +1,269 @@
+// Runs the bench cards of document 01 through the code and prints one line for each.
+ghost use Prim.Native.Nat.{_+_, _*_, _≤_};
+ghost use mathlib.Core.Path.{_≡_};
+ghost use lib.ListN.{length};
+ghost use Rattle.io.specs.Counts.{Counts};
+ghost use Rattle.fit.specs.Fits.{within as withinOf};
+ghost use Rattle.cards.specs.Cards.{header, listed as listedSheet, seven, jobsG, jobsH, jobsI, jobsL};
+use checker::Verdict;
+use dispatcher::Answer;
+use dispatcher::Core;
+use dispatcher::Step;
+use fit::By;
+use libc::STDOUT_FILENO;
+use planner::Planned;
+use sheet::Refusal;
+
+fn print(text: &[u8]) {
+    io::write_all(STDOUT_FILENO, text);
+}
+
+// A space and a number.
+fn print_number(n: u64) {
+    print(b" ");
+    io::print_decimal(STDOUT_FILENO, n);
+}
+
+fn print_refused(word: Refusal, place: u16) {
+    print(b" refused");
+    print_number(sheet::number(word) as u64);
+    print_number(place as u64);
+}
+
+// The inputs of the cards.
+
+fn bare_header() -> [u8; 8]
+    ensures { λ r. ⌜ r ≡ header 0 0 ⌝ }
+{
+    *b"TSH\x01\x00\x00\x00\x00"
+}
+
+// The listing's sheet with the last budget and the last factor given.
+fn listed(budget: u8, factor: u8) -> [u8; 46]
+    ensures { λ r. ⌜ r ≡ listedSheet budget factor ⌝ }
+{
+    let mut sheet =
+        *b"TSH\x01\x00\x03\x01\x00\x03\x00\x01\x00\x00\x00\x01\x00\x00\x00\x07\x00\x01\x00\x00\x00\x02\x00\x00\x00\x0d\x00\x06\x00\x00\x00\x04\x00\x00\x00\x03\x00\x00\x00\x01\x00\x00\x00";
+    sheet[30] = budget;
+    sheet[34] = factor;
+    sheet
+}
+
+fn seven_bytes() -> [u8; 7]
+    ensures { λ r. ⌜ r ≡ seven ⌝ }
+{
+    *b"TSH\x01\x00\x00\x00"
+}
+
+fn jobs_g() -> [u8; 12]
+    ensures { λ r. ⌜ r ≡ jobsG ⌝ }
+{
+    *b"\x02\x00\x01\x00\x0b\x00\x02\x00\x11\x00\x04\x00"
+}
+
+fn jobs_h() -> [u8; 8]
+    ensures { λ r. ⌜ r ≡ jobsH ⌝ }
+{
+    *b"\x0a\x00\x04\x00\x0f\x00\x09\x00"
+}
+
+fn jobs_i() -> [u8; 8]
+    ensures { λ r. ⌜ r ≡ jobsI ⌝ }
+{
+    *b"\x05\x00\x01\x00\x09\x00\x07\x00"
+}
+
+fn jobs_l() -> [u8; 8]
+    ensures { λ r. ⌜ r ≡ jobsL ⌝ }
+{
+    *b"\x05\x00\x02\x00\x07\x00\x04\x00"
+}
+
+// Cards A to F: what the checker answers.
+fn check_card(name: &[u8], sheet: &[u8]) {
+    print(name);
+    let verdict = checker::check(sheet);
+    match verdict {
+        Verdict::Accepted { tasks, cores } => {
+            print(b" accepted");
+            print_number(tasks as u64);
+            print_number(cores as u64);
+        }
+        Verdict::Refused { word, place } => print_refused(word, place),
+    }
+    print(b"\n");
+}
+
+fn check_cards() {
+    check_card(b"A", &bare_header());
+    check_card(b"B", &listed(6, 4));
+    check_card(b"C", &listed(7, 4));
+    check_card(b"D", &listed(6, 5));
+    check_card(b"E", &listed(6, 3));
+    check_card(b"F", &seven_bytes());
+}
+
+// w, the whole part of Q × M / D.
+fn within(q: u16, d: u32, m: u32) -> u64
+    ensures { λ r. ⌜ r ≡ withinOf q d m ⌝ }
+{
+    if d == 0 {
+        return 0;
+    }
+    (q as u64) * (m as u64) / (d as u64)
+}
+
+fn print_factors(tasks: &[u8], n: u8) {
+    let mut i = 0;
+    while i < n {
+        print_number(sheet::factor(tasks, i) as u64);
+        i += 1;
+    }
+}
+
+fn print_within(tasks: &[u8], n: u8, q: u16, d: u32) {
+    let mut i = 0;
+    while i < n {
+        print_number(within(q, d, sheet::factor(tasks, i)));
+        i += 1;
+    }
+}
+
+// The figures of core 0 of a sheet, and the factors and w of its n tasks.
+fn print_rates(sheet: &[u8], n: u8)
+    requires { ⌜ 8 + 10 * n ≤ length (now sheet) ⌝ }
+{
+    let at = 8 + 10 * (n as usize);
+    let tasks = &sheet[8..];
+    let cores = &sheet[at..];
+    let q = sheet::pivot(cores, 0);
+    let d = sheet::divisor(cores, 0);
+    print(b" pivot");
+    print_number(q as u64);
+    print(b" divisor");
+    print_number(d as u64);
+    print(b" factors");
+    print_factors(tasks, n);
+    print(b" within");
+    print_within(tasks, n, q, d);
+}
+
+// Cards G, H and I: what the planner makes with limit 1 and start 0. The length of the sheet is returned, 0 where it is refused.
+fn plan_card(name: &[u8], jobs: &[u8], out: &mut [u8]) -> usize
+    ensures { λ r. ⌜ Counts r (now (out .exit)) ⌝ }
+{
+    print(name);
+    let planned = planner::plan(jobs, 1, 0, out);
+    match planned {
+        Planned::Refused { word, place } => {
+            print_refused(word, place);
+            print(b"\n");
+            0
+        }
+        Planned::Written {
+            tasks,
+            cores,
+            length: _,
+        } => {
+            print_rates(out, tasks);
+            print(b"\n");
+            8 + 10 * (tasks as usize) + 8 * (cores as usize)
+        }
+    }
+}
+
+// Prints a call's answer, nothing where it is only accepted, and goes on with the state that the call handed back.
+fn after(step: Step) -> Core {
+    let answer = step.answer;
+    match answer {
+        Answer::Accepted => {}
+        Answer::Served(task) => print_number(task as u64),
+        Answer::Idle => print(b" idle"),
+        Answer::Refused { word, place } => print_refused(word, place),
+    }
+    let core = step.core;
+    core
+}
+
+fn ticked(core: Core, ticks: u8) -> Core {
+    let mut state = core;
+    let mut i = 0;
+    while i < ticks {
+        let next = after(state.tick());
+        state = next;
+        i += 1;
+    }
+    state
+}
+
+// Cards J, K and L begin so: a start, and a release of task 0 and of task 1.
+fn both_released(name: &[u8], start: Step) -> Core {
+    print(name);
+    let core = after(start);
+    let core = after(core.release(0));
+    after(core.release(1))
+}
+
+fn card_j(sheet: &[u8]) {
+    let core = both_released(b"J", dispatcher::start_sheet(sheet, 0));
+    let core = ticked(core, 5);
+    let core = after(core.release(0));
+    let core = ticked(core, 4);
+    after(core.finish(1));
+    print(b"\n");
+}
+
+fn card_k(sheet: &[u8]) {
+    let core = both_released(b"K", dispatcher::start_sheet(sheet, 0));
+    let core = ticked(core, 4);
+    after(core.release(0));
+    print(b"\n");
+}
+
+fn card_l(jobs: &[u8]) {
+    let core = both_released(b"L", dispatcher::start_list(jobs));
+    let core = ticked(core, 5);
+    let core = after(core.release(0));
+    let core = ticked(core, 2);
+    after(core.release(1));
+    print(b"\n");
+}
+
+// Card I, and cards J and K on its sheet.
+fn cards_i_to_k() {
+    let mut out = [0u8; 712];
+    let n = plan_card(b"I", &jobs_i(), &mut out);
+    card_j(&out[..n]);
+    card_k(&out[..n]);
+}
+
+// The period of a task; 0 past the end.
+fn period_at(periods: &[u16], task: u8) -> u16 {
+    let at = task as usize;
+    if at < periods.len() {
+        return periods[at];
+    }
+    0
+}
+
+// Card M: three periods in ring order.
+fn card_m() {
+    let periods = [7u16, 16, 21];
+    let ring = fit::sorted(By::Ring, &periods, 3);
+    let tasks = ring.tasks;
+    print(b"M");
+    print_number(period_at(&periods, tasks[0]) as u64);
+    print_number(period_at(&periods, tasks[1]) as u64);
+    print_number(period_at(&periods, tasks[2]) as u64);
+    print(b"\n");
+}
+
+fn main() {
+    let mut out = [0u8; 712];
+    check_cards();
+    plan_card(b"G", &jobs_g(), &mut out);
+    plan_card(b"H", &jobs_h(), &mut out);
+    cards_i_to_k();
+    card_l(&jobs_l());
+    card_m();
+}
