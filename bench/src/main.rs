@@ -40,6 +40,12 @@ fn check(rng: &mut Rng) {
         }
     };
     compare(sheets.len(), || run(plain::check), || run(binding::check));
+    println!("the same, with the reference, which is written for reading, as plain:");
+    compare(
+        sheets.len(),
+        || run(reference::check),
+        || run(binding::check),
+    );
 }
 
 #[cfg(feature = "plan")]

@@ -2,8 +2,14 @@
 #include "homvaits.h"
 
 #include <assert.h>
+#include <stddef.h>
 #include <stdio.h>
 #include <string.h>
+
+_Static_assert(sizeof(homvaits_task) == 10 && offsetof(homvaits_task, period) == 0 && offsetof(homvaits_task, budget) == 2 &&
+                   offsetof(homvaits_task, age) == 4 && offsetof(homvaits_task, left) == 6 && offsetof(homvaits_task, number) == 8,
+               "a task");
+_Static_assert(sizeof(homvaits_core) == 648 && offsetof(homvaits_core, tasks) == 8, "a core");
 
 static void put(uint8_t *at, unsigned x) { at[0] = (uint8_t)(x % 256); at[1] = (uint8_t)(x / 256); }
 
@@ -30,6 +36,8 @@ int main(void) {
 
     homvaits_step step = homvaits_start(sheet, planned.length, 0);
     assert(step.refusal == 0 && step.core.count == 2);
+    const homvaits_task *second = &step.core.tasks[1];
+    assert(second->period == 9 && second->budget == 7 && second->age == 9 && second->left == 0 && second->number == 1);
     step = homvaits_release(step.core, 0);
     assert(step.refusal == 0);
     step = homvaits_release(step.core, 1);

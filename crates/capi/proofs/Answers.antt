@@ -6,6 +6,7 @@ use mathlib.Core.Bool.{Bool, true, false, cond, false≢true}
 use lib.Dec.{ltb}
 use native.Mathlib.Omega.{arith}
 use mathlib.Core.List.{List}
+use lib.ListN.{take}
 use lib.Dec.{lit≤}
 use Rattle.sheet.specs.declared.Refusal.{Refusal}
 use Rattle.sheet.specs.declared.Refusal.the-variants as words
@@ -30,6 +31,31 @@ use Rattle.dispatcher.specs.OnTime.{Kept, Timely}
 use Rattle.capi.specs.declared.Moved.{Moved}
 use Rattle.capi.specs.Answers.{checkedOf, plannedOf, listedOf, movedOf, tickedOf}
 
+-- no refusal has the number 0
+positive : (w : Refusal) → 1 ≤ numberOf w
+positive words.Stub = lit≤ tt
+positive words.Mark = lit≤ tt
+positive words.Version = lit≤ tt
+positive words.Count = lit≤ tt
+positive words.Length = lit≤ tt
+positive words.Spare = lit≤ tt
+positive words.Period = lit≤ tt
+positive words.Budget = lit≤ tt
+positive words.Core = lit≤ tt
+positive words.Bare = lit≤ tt
+positive words.Factor = lit≤ tt
+positive words.Stretch = lit≤ tt
+positive words.Chain = lit≤ tt
+positive words.Overload = lit≤ tt
+positive words.NoFit = lit≤ tt
+positive words.Tight = lit≤ tt
+positive words.Unlisted = lit≤ tt
+positive words.Early = lit≤ tt
+positive words.Late = lit≤ tt
+positive words.Quiet = lit≤ tt
+positive words.Foreign = lit≤ tt
+positive words.Start = lit≤ tt
+
 -- check
 pub checked-accepted : (v : Verdict) (o : check.Outcome) (n c : ℕ) → check.outcomeOf v ≡ o → v ≡ verdicts.Accepted n c → record { refusal = 0; place = 0; tasks = n; cores = c } ≡ checkedOf o
 unfolding checkedOf
@@ -47,6 +73,12 @@ planned-written v o n c s e h = ap plannedOf (sym (ap plan.outcomeOf h) ∙ e)
 pub planned-refused : (v : Planned) (o : plan.Outcome) (w : Refusal) (k p : ℕ) → plan.outcomeOf v ≡ o → v ≡ plans.Refused w p → k ≡ numberOf w → record { refusal = k; place = p; tasks = 0; cores = 0; length = 0 } ≡ plannedOf o
 unfolding plannedOf
 planned-refused v o w k p e h r = rw r (ap plannedOf (sym (ap plan.outcomeOf h) ∙ e))
+
+pub plan-accepted : (v : Planned) (n c s : ℕ) (out : List ℕ) → plan.Accepting v out → v ≡ plans.Written n c s → check.verdict (take s out) ≡ check.accepted n c
+plan-accepted v n c s out a h = rw h at a
+
+pub plan-refused : (w : Refusal) (k : ℕ) (x y : check.Outcome) → k ≡ numberOf w → k ≡ 0 → x ≡ y
+plan-refused w k x y e z = absurd (omega (arith, positive w))
 
 -- list
 pub listed-written : (v : Listed) (o : list.Answer) (n : ℕ) → list.answerOf v ≡ o → v ≡ lists.Written n → record { refusal = 0; place = 0; length = n } ≡ listedOf o
@@ -95,31 +127,6 @@ module _ (a : Told) (s : Core) where
 -- a call's answer and state, handed on
 pub moved-on : (m : Moved) (a : Told) (s : Core) (o : Answer) (t : Core) → m ≡ movedOf (answerOf a) s → answerOf a ≡ o → s ≡ t → m ≡ movedOf o t
 moved-on m a s o t e h k = e ∙ rw (h, k)
-
--- no refusal has the number 0
-positive : (w : Refusal) → 1 ≤ numberOf w
-positive words.Stub = lit≤ tt
-positive words.Mark = lit≤ tt
-positive words.Version = lit≤ tt
-positive words.Count = lit≤ tt
-positive words.Length = lit≤ tt
-positive words.Spare = lit≤ tt
-positive words.Period = lit≤ tt
-positive words.Budget = lit≤ tt
-positive words.Core = lit≤ tt
-positive words.Bare = lit≤ tt
-positive words.Factor = lit≤ tt
-positive words.Stretch = lit≤ tt
-positive words.Chain = lit≤ tt
-positive words.Overload = lit≤ tt
-positive words.NoFit = lit≤ tt
-positive words.Tight = lit≤ tt
-positive words.Unlisted = lit≤ tt
-positive words.Early = lit≤ tt
-positive words.Late = lit≤ tt
-positive words.Quiet = lit≤ tt
-positive words.Foreign = lit≤ tt
-positive words.Start = lit≤ tt
 
 -- a start that is not refused is accepted: it answers nothing else
 unfoldable pub isStart : Answer → Bool

@@ -2,8 +2,8 @@
 // number; fields that do not apply are 0.
 ghost use mathlib.Core.Path.{_≡_};
 ghost use mathlib.Core.List.{List};
-ghost use lib.ListN.{length};
-ghost use Rattle.checker.specs.Verdict.{verdict};
+ghost use lib.ListN.{length, take};
+ghost use Rattle.checker.specs.Verdict.{verdict, accepted};
 ghost use Rattle.planner.specs.Plan.{planOutcome, planOutput};
 ghost use Rattle.listing.specs.Answers.{listed, holding};
 ghost use Rattle.jobs.specs.Jobs.{listRows};
@@ -84,6 +84,7 @@ pub extern "C" fn homvaits_check(sheet: &[u8]) -> Checked
 pub extern "C" fn homvaits_plan(jobs: &[u8], limit: u64, start: u64, out: &mut [u8]) -> PlanAnswer
     ensures { λ r. ⌜ r ≡ plannedOf (planOutcome (now (jobs .entry)) limit start (length (now (out .entry)))) ⌝ }
     ensures { λ _. ⌜ now (out .exit) ≡ planOutput (now (jobs .entry)) limit start (now (out .entry)) ⌝ }
+    ensures accepts { λ r. ⌜ (r .refusal ≡ 0 → verdict (take (r .length) (now (out .exit))) ≡ accepted (r .tasks) (r .cores)) ⌝ }
 {
     let answer = planner::plan(jobs, limit, start, out);
     match answer {

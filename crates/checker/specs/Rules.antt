@@ -55,7 +55,7 @@ coreRows f =
 unfoldable pub fitRows : Figures → List Row
 fitRows f = 13 at findSome (chainBreakOn f) (numbers 0 (f .cores)) ∷ 14 at core (find (overloadedOn f) (numbers 0 (f .cores))) ∷ []
 
--- the rules for n tasks and c cores whose records are the part from byte 8
+-- rules 7 to 14, over the figures
 unfoldable pub recordRows : Figures → List Row
 recordRows f = taskRows f ++ (coreRows f ++ fitRows f)
 

@@ -14,6 +14,17 @@ fn a_plan_is_checked_listed_and_run() {
     assert_eq!(list(&sheet), LISTING);
 
     let mut core = Core::start(&sheet, 0).unwrap();
+    let second = core.tasks()[1];
+    assert_eq!(
+        (
+            second.period,
+            second.budget,
+            second.age,
+            second.left,
+            second.number
+        ),
+        (9, 7, 9, 0, 1)
+    );
     core = core.release(0).unwrap().release(1).unwrap();
     let mut served = Vec::new();
     for i in 0..10 {

@@ -1,5 +1,5 @@
 use borrow.Author.Needs.{needs}
-use Rattle.capi.proofs.Answers.{planned-written, planned-refused}
+use Rattle.capi.proofs.Answers.{planned-written, planned-refused, plan-accepted, plan-refused}
 use Rattle.capi.proofs.homvaits_plan.Statement.{statement}
 use Rattle.capi.proofs.homvaits_plan.Tie as tie
 use Rattle.capi.proofs.homvaits_plan.Reads as reads
@@ -29,7 +29,7 @@ same-length c = search needs
 
 -- src/lib.rt:83:1
 returns : tie.Need-returns
-returns c = (search planned-written, search needs)
+returns c = (search planned-written, (search needs, λ z. search plan-accepted))
 
 -- src/lib.rt:83:1
 same-length-2 : tie.Need-same-length-2
@@ -37,7 +37,7 @@ same-length-2 c = search needs
 
 -- src/lib.rt:83:1
 returns-2 : tie.Need-returns-2
-returns-2 c = (search planned-refused, search needs)
+returns-2 c = (search planned-refused, (search needs, λ z. search plan-refused))
 
 pub homvaits-plan-spec : {M : Type 1} → statement M
 homvaits-plan-spec =
