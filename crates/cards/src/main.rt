@@ -181,8 +181,7 @@ fn after(step: Step) -> Core {
         Answer::Idle => print(b" idle"),
         Answer::Refused { word, place } => print_refused(word, place),
     }
-    let core = step.core;
-    core
+    step.core
 }
 
 fn ticked(core: Core, ticks: u8) -> Core {

@@ -1,7 +1,7 @@
 // Reads a job list as text from standard input and writes the sheet of its plan to standard output. The arguments are the core limit and
 // the start, 8 and 0 where they are absent. What is wrong is said on standard error, and then no sheet is written.
 ghost use mathlib.Core.Path.{_≡_};
-ghost use Prim.Native.Nat.{_+_, _*_, _≤_, min};
+ghost use Prim.Native.Nat.{_≤_};
 ghost use Rattle.jobtext.specs.Text.{isDigit};
 ghost use Rattle.plan.specs.Number.{longer, numberIn};
 use jobtext::Read;
