@@ -1,5 +1,4 @@
 -- The C answers: `refusal` is 0 where nothing is refused, else document 01's number; fields that do not apply are 0.
-use Prim.Native.Nat.{ℕ}
 use Rattle.checker.specs.Verdict as check
 use Rattle.planner.specs.Plan as plan
 use Rattle.listing.specs.Answers as list

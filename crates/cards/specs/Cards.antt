@@ -5,16 +5,14 @@ use mathlib.Core.List.{List, [], _∷_, _++_, map}
 use Rattle.sheet.specs.Table.{scan}
 use Rattle.sheet.specs.Records.{Figures, figures}
 use Rattle.fit.specs.declared.By.the-variants.{Ring}
-use Rattle.fit.specs.Lists.{numbers}
+use Rattle.fit.specs.Lists.{numbers, at}
 use Rattle.fit.specs.Ring.{orderBy}
 use Rattle.fit.specs.Fits.{within}
-use Rattle.fit.specs.Answers.{at}
 use Rattle.checker.specs.Verdict.{verdict}
 use Rattle.checker.specs.Verdict as checker
 use Rattle.jobs.specs.Jobs.{listRows}
 use Rattle.figures.specs.Constructions.{sr}
-use Rattle.timing.specs.Calls.{Answer, release, finish, tick, accepted, served, refused, Entry, entry, log}
-use Rattle.timing.proofs.Runs.{calls}
+use Rattle.timing.specs.Calls.{Answer, release, finish, tick, accepted, served, refused, Entry, entry, calls, log}
 use Rattle.dispatcher.specs.declared.Core.{Core}
 use Rattle.dispatcher.specs.Operations.{ask, step}
 use Rattle.dispatcher.specs.Starts.{sheetAnswer, sheetState, listAnswer, listState}

@@ -1,32 +1,32 @@
 -- The verdict is "accepted" exactly when the sheet is acceptable; and what follows for each core.
 -- Assumes nothing.
 use Prim.Native.Nat.{ℕ, zero, suc, _+_, _-_, _*_, _≤_, _<_, zero-le}
-use mathlib.Core.Path.{_≡_, refl, sym, ap, _∙_}
+use mathlib.Core.Path.{_≡_, refl, sym, _∙_}
 use mathlib.Core.Logic.{_↔_}
-use mathlib.Core.Bool.{Bool, true, false, not, _||_, _&&_, true≢false, false≢true}
-use mathlib.Core.Option.{Option, none, some, Option·none-ne-some, Option·some-ne-none}
+use mathlib.Core.Bool.{Bool, true, false, _&&_, true≢false, false≢true}
+use mathlib.Core.Option.{Option, none, some, Option·some-ne-none}
 use mathlib.Core.List.{List, [], _∷_, _++_}
 use native.Mathlib.Omega.{arith}
 use native.Mathlib.Nat.{zero-add, le-trans}
-use borrow.Author.Tests.{ltb-false, le-ltb, leb-false, lt-leb, eqb-true, eqb-false, eq-eqb, ne-eqb, not-true, not-false}
-use lib.ListN.{length, getD, take, drop}
-use lib.Dec.{leb, ltb, eqb}
+use borrow.Author.Tests.{ltb-false, le-ltb, leb-false, lt-leb, eqb-true, eqb-false, eq-eqb, not-false}
+use lib.ListN.{length, getD, drop}
+use lib.Dec.{ltb, eqb}
 use Rattle.sheet.specs.Table.{Row, _at_, scan, whole, core, Refused}
 use Rattle.sheet.specs.Ranges.{outOf, badPeriod, badBudget}
 use Rattle.sheet.specs.Numbers.{word}
 use Rattle.sheet.specs.Records.{Figures, figures, taskCount, coreCount}
 use Rattle.sheet.proofs.Ranges.{neither, in-range, range-in}
 use Rattle.sheet.proofs.Scans.{scan-clear, scan-clears, scan-skip, scan-second, scan-none, whole-clear, core-clear}
-use Rattle.fit.specs.Lists.{numbers, find, Each, EachPair}
+use Rattle.fit.specs.Lists.{numbers, find, Each}
 use Rattle.fit.specs.Priority.{order}
-use Rattle.fit.specs.Fits.{stretched, chainBreak, overloaded, Multiples}
+use Rattle.fit.specs.Fits.{stretched, overloaded, Multiples}
 use Rattle.fit.proofs.Finds.{find-none, none-find, find-some, findSome-none, none-findSome}
 use Rattle.fit.proofs.Lists.{each-of, each-both}
 use Rattle.fit.proofs.Priority.{order-members, order-count, order-rising}
 use Rattle.fit.proofs.Levels.{chain-multiples, multiples-chain, multiples-pairs, level-load, budget-within, within-period}
 use Rattle.checker.specs.Tests.{isMarked, taskSpares, coreSpares, isSet, badCore, isOn, isNone, bare, badFactor, badPivot, stretchedAt, orderOn, chainBreakOn, overloadedOn}
 use Rattle.checker.specs.Rules.{offset, frameRows, spareRows, taskRows, coreRows, fitRows, recordRows, rules}
-use Rattle.checker.specs.Verdict.{Outcome, accepted, refused, outcome, verdict}
+use Rattle.checker.specs.Verdict.{accepted, outcome, verdict}
 use Rattle.checker.specs.Accepted.{LoadAtMostOne, Fitting, Acceptable, Schedulable, CoreOf}
 
 -- a table is clear exactly when each of its rows is

@@ -2,10 +2,9 @@
 -- Assumes nothing.
 use Prim.Native.Nat.{ℕ, _-_, _*_, _≤_, _<_}
 use mathlib.Core.Path.{_≡_, sym, ap, _∙_}
-use mathlib.Core.List.{List, _++_}
+use mathlib.Core.List.{List}
 use native.Mathlib.Omega.{arith}
 use lib.ListN.{length, take, drop, length-drop}
-use lib.Seq.{take-all}
 use Rattle.sheet.specs.declared.Refusal.{Refusal}
 use Rattle.sheet.specs.declared.Finding.{Finding}
 use Rattle.sheet.specs.declared.Finding.the-variants.{Clear, Broken}
@@ -13,10 +12,11 @@ use Rattle.sheet.specs.Refusals.{numberOf}
 use Rattle.sheet.specs.Table.{scan, findingOf}
 use Rattle.sheet.specs.Records.{Figures, taskCount, coreCount, figuresOf}
 use Rattle.sheet.proofs.Scans.{part-hit, part-skip, scan-clears}
+use Rattle.fit.proofs.Lists.{part}
 use Rattle.checker.specs.Rules.{frameRows, spareRows, taskRows, coreRows, recordRows, rules}
 use Rattle.checker.specs.declared.Verdict.{Verdict}
 use Rattle.checker.specs.Verdict.{accepted, refused, outcome, outcomeOf, verdict}
-use Rattle.checker.specs.Answers.{InRange, earlyRows}
+use Rattle.checker.specs.Steps.{InRange, earlyRows}
 use Rattle.checker.proofs.Acceptance.{frame-kept, cores-kept}
 
 -- what rule 14 needs, where rules 7 to 12 are kept
@@ -25,10 +25,6 @@ unfolding earlyRows
 clear-range f s n e q k h =
     let g = cores-kept f (scan-clears (taskRows f) (coreRows f) (sym (ap findingOf q) ∙ e) .1) in
     record { count = n; factors = λ i z. g .factor i z .1; divisor = g .divisor k h .1 }
-
--- a part from a place on is what is left from there
-pub part : (s : List ℕ) (a : ℕ) → take (length s - a) (drop a s) ≡ drop a s
-part s a = take-all (length s - a) (drop a s) (simp length-drop (omega arith))
 
 -- the ways out of rules 1 to 14, with the code's parts of the sheet
 module _ (s : List ℕ) (r : Finding) (w : Refusal) (p : ℕ) where

@@ -1,6 +1,6 @@
 -- Rules 13 and 14 at one core: what the code finds of its tasks in priority order is what the rules say.
 -- Assumes nothing.
-use Prim.Native.Nat.{ℕ, _+_, _-_, _*_, _≤_, _<_, min}
+use Prim.Native.Nat.{ℕ, _+_, _-_, _≤_, _<_, min}
 use mathlib.Core.Path.{_≡_, refl, sym, ap, _∙_}
 use mathlib.Core.Bool.{Bool, true, false, cond}
 use mathlib.Core.Option.{Option, none, some}
@@ -9,16 +9,16 @@ use native.Mathlib.Omega.{arith}
 use native.Mathlib.Nat.{le-trans, sub-zero}
 use native.Mathlib.Decide.{ℕ-discrete}
 use borrow.Author.Tests.{le-leb, ne-eqb}
-use lib.ListN.{length, take, length-take}
-use lib.Dec.{ltb, eqb}
+use lib.ListN.{length, take}
+use lib.Dec.{eqb}
 use Rattle.sheet.specs.Records.{Figures}
 use Rattle.fit.specs.declared.Order.{Order}
 use Rattle.fit.specs.declared.Chain.{Chain}
 use Rattle.fit.specs.declared.Chain.the-variants.{Whole, Broken}
-use Rattle.fit.specs.Lists.{Each, numbers, find, findSome}
+use Rattle.fit.specs.Lists.{numbers, find, findSome, at}
 use Rattle.fit.specs.Priority.{order}
-use Rattle.fit.specs.Fits.{chainBreak, lastFactor, load, overloaded}
-use Rattle.fit.specs.Answers.{at, Column, Ordered, chainAnswer, chained, loadInRange}
+use Rattle.fit.specs.Fits.{chainBreak, lastFactor, overloaded}
+use Rattle.fit.specs.Answers.{Column, Ordered, chainAnswer, chained, loadInRange}
 use Rattle.fit.proofs.Lists.{each-of}
 use Rattle.fit.proofs.Finds.{front}
 use Rattle.fit.proofs.Priority.{order-members, order-count, order-ext}
@@ -26,7 +26,7 @@ use Rattle.fit.proofs.Levels.{load-last}
 use Rattle.checker.specs.declared.Judged.{Judged}
 use Rattle.checker.specs.declared.Judged.the-variants.{Chained, Unchained}
 use Rattle.checker.specs.Tests.{orderOn, chainBreakOn, overloadedOn}
-use Rattle.checker.specs.Answers.{judged, overInRange, InRange, firstOver}
+use Rattle.checker.specs.Steps.{judged, overInRange, InRange, firstOver}
 
 answer-broken : (o : Option ℕ) (L i : ℕ) → Broken i ≡ chainAnswer o L → o ≡ some i
 unfolding chainAnswer
@@ -37,9 +37,6 @@ answer-whole : (o : Option ℕ) (L m : ℕ) → Whole m ≡ chainAnswer o L → 
 unfolding chainAnswer
 answer-whole none L m e = (refl, cc)
 answer-whole (some j) L m e = absurd (let z : _≡_ {A = ℕ} 0 1 = cc in omega arith)
-
-pub ordered-length : (l : List ℕ) (o : Order) → Ordered l o → o .count ≡ length (take (o .count) (o .tasks))
-ordered-length l o s = simp length-take (omega (arith, s .count, s .size))
 
 module _ (f : Figures) (k : ℕ) (periods : List ℕ) (o : Order) (chain : Chain) (r : InRange f k) (column : Column (f .period) (min (f .tasks) 64) periods) (s : Ordered (order (at periods) (f .core) k (min (f .tasks) 64)) o) (h : chain ≡ chained (f .factor) (take (o .count) (o .tasks))) where
   listed : take (o .count) (o .tasks) ≡ orderOn f k

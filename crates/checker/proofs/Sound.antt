@@ -1,10 +1,10 @@
 -- One pass over the tasks: where every task keeps rules 7, 8, 9, 11 and 12, those rows of the table are clear.
 -- Assumes nothing.
 use Prim.Native.Nat.{ℕ, _+_, _≤_, _<_}
-use mathlib.Core.Path.{_≡_, refl, sym, ap, _∙_}
-use mathlib.Core.Bool.{Bool, true, false, not, _||_, false≢true}
+use mathlib.Core.Path.{_≡_, sym, ap, _∙_}
+use mathlib.Core.Bool.{Bool, true, false, not, _||_}
 use mathlib.Core.Option.{none}
-use mathlib.Core.List.{List, [], _∷_, _++_, append-assoc}
+use mathlib.Core.List.{_++_, append-assoc}
 use native.Mathlib.Nat.{zero-add}
 use native.Mathlib.Decide.{ℕ-discrete}
 use native.Mathlib.Omega.{arith}
@@ -22,7 +22,7 @@ use Rattle.fit.specs.Lists.{numbers, find}
 use Rattle.fit.proofs.Finds.{none-find}
 use Rattle.checker.specs.Tests.{badCore, badFactor, stretchedAt}
 use Rattle.checker.specs.Rules.{taskRows, coreRows, fitRows, recordRows}
-use Rattle.checker.specs.Answers.{soundAt, earlyRows}
+use Rattle.checker.specs.Steps.{soundAt, earlyRows}
 
 -- the loop: every task below i is sound
 pub record Below (f : Figures) (i : ℕ) : Type 0 where

@@ -2,4 +2,4 @@ pub mod Tests
 pub mod Rules
 pub mod Verdict
 pub mod Accepted
-pub mod Answers
+pub mod Steps

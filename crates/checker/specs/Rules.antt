@@ -3,7 +3,7 @@ use Prim.Native.Nat.{ℕ, _+_, _*_}
 use mathlib.Core.Bool.{not, _||_}
 use mathlib.Core.Option.{Option, Option·map}
 use mathlib.Core.List.{List, [], _∷_, _++_}
-use lib.ListN.{length, getD, drop}
+use lib.ListN.{length, drop}
 use lib.Dec.{ltb, eqb}
 use Rattle.sheet.specs.Table.{Row, _at_, whole, core}
 use Rattle.sheet.specs.Ranges.{badPeriod, badBudget}

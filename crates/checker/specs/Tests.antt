@@ -1,16 +1,16 @@
 -- Document 01, "Refused sheets and calls": when each rule is broken, at a task i or a core k. p, e, M and the core are by task number, Q and D by core
 -- number.
-use Prim.Native.Nat.{ℕ, zero, suc, _+_, _*_}
+use Prim.Native.Nat.{ℕ, zero, suc, _+_}
 use mathlib.Core.Bool.{Bool, true, false, not, _&&_, _||_}
 use mathlib.Core.Option.{Option, none, some}
-use mathlib.Core.List.{List, [], _∷_, _++_}
+use mathlib.Core.List.{List, [], _∷_}
 use lib.ListN.{getD}
-use lib.Dec.{leb, ltb, eqb}
+use lib.Dec.{leb, eqb}
 use Rattle.sheet.specs.Ranges.{outOf}
 use Rattle.sheet.specs.Records.{Figures}
 use Rattle.fit.specs.Lists.{numbers, find}
 use Rattle.fit.specs.Priority.{order}
-use Rattle.fit.specs.Fits.{stretched, chainBreak, overloaded}
+use Rattle.fit.specs.Fits.{stretched, chainBreak, overloaded, within}
 
 -- "the letters T S H (hexadecimal 54 53 48)"
 unfoldable pub isMarked : List ℕ → Bool
@@ -66,3 +66,7 @@ chainBreakOn f k = chainBreak (f .factor) 1 (orderOn f k)
 -- "load above one"
 unfoldable pub overloadedOn : Figures → ℕ → Bool
 overloadedOn f k = overloaded (f .budget) (f .factor) (f .pivot k) (f .divisor k) (orderOn f k)
+
+-- "w is the whole part of Q × M / D", of task i on core k
+unfoldable pub withinOn : Figures → ℕ → ℕ → ℕ
+withinOn f k i = within (f .pivot k) (f .divisor k) (f .factor i)

@@ -2,19 +2,19 @@
 ghost use mathlib.Core.Path.{_≡_};
 ghost use mathlib.Core.Bool.{true, not, _||_};
 ghost use Prim.Native.Nat.{ℕ, _+_, _*_, _<_, _≤_, min};
-ghost use lib.ListN.{length, drop, getD};
+ghost use lib.ListN.{length};
 ghost use lib.Dec.{ltb, eqb};
 ghost use mathlib.Core.List.{[], _∷_};
 ghost use Rattle.sheet.specs.Table.{_at_, scan, foundOf, findingOf};
 ghost use Rattle.sheet.specs.Ranges.{badPeriod, badBudget};
 ghost use Rattle.sheet.specs.Numbers.{word};
-ghost use Rattle.sheet.specs.Records.{taskCount, coreCount, periodAt, budgetAt, coreAt, factorAt, pivotAt, divisorAt, figuresOf, figuresIn};
+ghost use Rattle.sheet.specs.Records.{taskCount, coreCount, periodAt, budgetAt, coreAt, factorAt, pivotAt, divisorAt, figuresOf};
 ghost use Rattle.fit.specs.Answers.{Column};
-ghost use Rattle.fit.specs.Lists.{numbers, find, findSome};
-ghost use Rattle.checker.specs.Tests.{isMarked, taskSpares, coreSpares, isSet, badCore, isOn, bare, badFactor, badPivot, stretchedAt, chainBreakOn, overloadedOn};
+ghost use Rattle.fit.specs.Lists.{numbers, find};
+ghost use Rattle.checker.specs.Tests.{isMarked, taskSpares, coreSpares, isSet, badCore, bare, badFactor, badPivot, stretchedAt, chainBreakOn, overloadedOn};
 ghost use Rattle.checker.specs.Rules.{frameRows, spareRows, taskRows, coreRows, fitRows, recordRows, rules, offset};
 ghost use Rattle.checker.specs.Verdict.{verdict, outcome, outcomeOf};
-ghost use Rattle.checker.specs.Answers.{broken, judged, overInRange, InRange, firstOver, soundAt, earlyRows};
+ghost use Rattle.checker.specs.Steps.{broken, judged, overInRange, InRange, firstOver, soundAt, earlyRows};
 use fit::Chain;
 use sheet::Finding;
 use sheet::Found;
@@ -92,19 +92,12 @@ fn bad_pivot(cores: &[u8], k: u8) -> bool
     q | d
 }
 
-// The product of a period and a factor or divisor.
-fn product(p: u16, m: u32) -> u64
-    ensures { λ r. ⌜ r ≡ p * m ⌝ }
-{
-    (p as u64) * (m as u64)
-}
-
 fn is_stretched(tasks: &[u8], cores: &[u8], n: u8, c: u8, i: u8) -> bool
     ensures { λ r. ⌜ r ≡ stretchedAt (figuresOf n c (now (tasks .entry)) (now (cores .entry))) i ⌝ }
 {
     let k = sheet::core(tasks, i);
-    let reach = product(sheet::pivot(cores, k), sheet::factor(tasks, i));
-    product(sheet::period(tasks, i), sheet::divisor(cores, k)) < reach
+    let reach = fit::product(sheet::pivot(cores, k), sheet::factor(tasks, i));
+    fit::product(sheet::period(tasks, i), sheet::divisor(cores, k)) < reach
 }
 
 // Whether a rule is broken at a task or core.
@@ -291,7 +284,7 @@ fn is_over(tasks: &[u8], cores: &[u8], list: &[u8], k: u8, last: u32) -> bool
     ensures { λ r. ⌜ r ≡ overInRange (budgetAt (now (tasks .entry))) (factorAt (now (tasks .entry))) (pivotAt (now (cores .entry)) k) (divisorAt (now (cores .entry)) k) last (now (list .entry)) ⌝ }
 {
     let load = fit::load_of(tasks, list, sheet::divisor(cores, k), last);
-    product(sheet::pivot(cores, k), last) < load
+    fit::product(sheet::pivot(cores, k), last) < load
 }
 
 // Rules 13 and 14 at core k.

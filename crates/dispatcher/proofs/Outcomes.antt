@@ -23,7 +23,7 @@ use Rattle.dispatcher.specs.declared.Step.{Step}
 use Rattle.dispatcher.specs.declared.Answer.the-variants.{Accepted, Served, Idle}
 use Rattle.dispatcher.specs.State.{tasksOf, withTasks, foreign}
 use Rattle.dispatcher.specs.Operations.{ask, step, Operation, answerOf}
-use Rattle.dispatcher.specs.Answers.{placeOf, refusal}
+use Rattle.dispatcher.specs.Steps.{placeOf, refusal}
 use Rattle.dispatcher.proofs.Foreign.{foreign-form}
 use Rattle.dispatcher.proofs.Aging.{state-is}
 

@@ -19,7 +19,7 @@ use Rattle.timing.specs.Form.{Sound, Distinct, Above, Form}
 use Rattle.timing.specs.Serving.{noTask, nth}
 use Rattle.dispatcher.specs.declared.Core.{Core}
 use Rattle.dispatcher.specs.State.{tasksOf, InForm, sound, foreign}
-use Rattle.dispatcher.specs.Answers.{rank}
+use Rattle.dispatcher.specs.Steps.{rank}
 use Rattle.dispatcher.proofs.Foreign.{form-foreign, is-foreign, sound-true, sound-false}
 
 -- some task has this number

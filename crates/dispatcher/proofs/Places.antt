@@ -13,7 +13,7 @@ use borrow.Author.Tests.{lt-ltb, le-ltb, eq-eqb, ne-eqb}
 use Rattle.timing.specs.declared.Task.{Task}
 use Rattle.timing.specs.Tasks.{pending, named}
 use Rattle.timing.specs.Serving.{noTask}
-use Rattle.dispatcher.specs.Answers.{placeOf}
+use Rattle.dispatcher.specs.Steps.{placeOf}
 
 -- the first i tasks do not pass
 pub record Searched (q : Task → Bool) (i : ℕ) (s : List Task) : Type 0 where

@@ -7,15 +7,16 @@ use native.Mathlib.Numerals.{add-one}
 use native.Mathlib.Omega.{arith}
 use lib.ListN.{length, getD, take, set, replicate, length-take, length-map}
 use lib.Seq.{take-suc, take-all, getD-take, set-at, append-snoc}
+use Rattle.fit.specs.Lists.{at}
 use Rattle.fit.specs.declared.By.the-variants.{Period}
 use Rattle.fit.specs.Priority.{order}
 use Rattle.fit.specs.Ring.{orderBy}
-use Rattle.fit.specs.Answers.{at, Column}
+use Rattle.fit.specs.Answers.{Column}
 use Rattle.fit.proofs.Priority.{order-ext}
 use Rattle.timing.specs.declared.Task.{Task}
 use Rattle.timing.specs.Serving.{noTask}
 use Rattle.dispatcher.specs.declared.Core.{Core}
-use Rattle.dispatcher.specs.Starts.{freshTask, freshTasks, stateOf, inList}
+use Rattle.dispatcher.specs.Starts.{freshTask, freshTasks, stateOf}
 use Rattle.dispatcher.proofs.Aging.{state-is}
 
 fresh-append : (p e : ℕ → ℕ) (l m : List ℕ) → freshTasks p e (l ++ m) ≡ freshTasks p e l ++ freshTasks p e m
@@ -68,8 +69,8 @@ module _ (p e : ℕ → ℕ) where
       let same : min n 64 ≡ n = omega arith in
       filled o _ count i s size most a b f (q ∙ ap (order p core k) same)
 
-  pub list-end : (n : ℕ) (periods o : List ℕ) (count i : ℕ) (s : Core) → n ≤ 64 → Column p n periods → length o ≡ 64 → count ≤ 64 → take count o ≡ orderBy Period (at periods) (min n 64) → i ≤ count → count ≤ i → Filled p e (take count o) i s → record { count = count; tasks = s .tasks } ≡ stateOf (freshTasks p e (inList p n))
-  unfolding orderBy inList
+  pub list-end : (n : ℕ) (periods o : List ℕ) (count i : ℕ) (s : Core) → n ≤ 64 → Column p n periods → length o ≡ 64 → count ≤ 64 → take count o ≡ orderBy Period (at periods) (min n 64) → i ≤ count → count ≤ i → Filled p e (take count o) i s → record { count = count; tasks = s .tasks } ≡ stateOf (freshTasks p e (orderBy Period p n))
+  unfolding orderBy
   list-end n periods o count i s few c size most q a b f =
       let same : min n 64 ≡ n = omega arith in
       filled o _ count i s size most a b f (q ∙ ap (order (at periods) (λ i. 0) 0) same ∙ order-ext (at periods) p (λ i. 0) 0 n (c .below))

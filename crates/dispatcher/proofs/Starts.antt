@@ -19,12 +19,14 @@ use Rattle.sheet.specs.declared.Finding.{Finding}
 use Rattle.sheet.specs.declared.Finding.the-variants.{Clear, Broken}
 use Rattle.sheet.specs.Table.{scan, findingOf, Refused}
 use Rattle.sheet.specs.Records.{taskCount, periodAt, budgetAt, coreAt}
+use Rattle.fit.specs.declared.By.the-variants.{Period}
 use Rattle.fit.specs.Priority.{order}
+use Rattle.fit.specs.Ring.{orderBy}
 use Rattle.fit.proofs.Priority.{order-members, order-count, order-rising}
 use Rattle.fit.proofs.Lists.{each-of}
 use Rattle.checker.specs.declared.Verdict.{Verdict}
 use Rattle.checker.specs.declared.Verdict.the-variants.{Accepted as Passed, Refused as Turned}
-use Rattle.checker.specs.Tests.{orderOn}
+use Rattle.checker.specs.Tests.{orderOn, withinOn}
 use Rattle.checker.specs.Verdict.{verdict, outcomeOf}
 use Rattle.checker.specs.Accepted.{CoreOf}
 use Rattle.checker.proofs.Acceptance.{accepted-exactly, core-of}
@@ -38,9 +40,9 @@ use Rattle.dispatcher.specs.declared.Core.{Core}
 use Rattle.dispatcher.specs.declared.Step.{Step}
 use Rattle.dispatcher.specs.declared.Answer.the-variants.{Accepted}
 use Rattle.dispatcher.specs.State.{tasksOf, InForm}
-use Rattle.dispatcher.specs.Starts.{freshTasks, stateOf, sheetAnswer, sheetTasks, sheetState, SheetStart, listAnswer, inList, listState, ListStart, FreshCore}
-use Rattle.dispatcher.specs.OnTime.{withinOn, Kept, Timely}
-use Rattle.dispatcher.specs.Answers.{refusal}
+use Rattle.dispatcher.specs.Starts.{freshTasks, stateOf, sheetAnswer, sheetTasks, sheetState, SheetStart, listAnswer, listState, ListStart, FreshCore}
+use Rattle.dispatcher.specs.OnTime.{Kept, Timely}
+use Rattle.dispatcher.specs.Steps.{refusal}
 use Rattle.dispatcher.proofs.Logs.{log-form, never-foreign}
 use Rattle.dispatcher.proofs.Schedule.{schedule-form, schedule-on-time, all-fresh, fresh-form}
 use Rattle.checker.specs.Verdict as verdict
@@ -152,7 +154,7 @@ module _ (l : List ℕ) (f : Finding) (e : findingOf f ≡ scan (listRows 0 l)) 
     list-fits = omega (arith, list-few)
 
     -- the fresh state of the list
-    pub list-starts : (y : Core) → y ≡ stateOf (freshTasks (jobPeriod l) (jobBudget l) (inList (jobPeriod l) (length l / 4))) → ListStart l (record { answer = Accepted; core = y })
+    pub list-starts : (y : Core) → y ≡ stateOf (freshTasks (jobPeriod l) (jobBudget l) (orderBy Period (jobPeriod l) (length l / 4))) → ListStart l (record { answer = Accepted; core = y })
     unfolding listAnswer listState jobCount
     list-starts y q = record { answer = rw (← clear); core = rw (← clear) q }
 
@@ -170,7 +172,7 @@ sheet-fresh s k a = go (verdict s) refl a
     go (verdict.refused w p) e x = absurd (let z : _≡_ {A = ℕ} 0 1 = cc in omega arith)
 
 pub list-fresh : (l : List ℕ) → listAnswer (scan (listRows 0 l)) ≡ accepted → FreshCore (listState (scan (listRows 0 l)) l)
-unfolding listAnswer listState inList
+unfolding listAnswer listState orderBy
 list-fresh l a = go (scan (listRows 0 l)) refl a
   where
     go : (o : Option Refused) → scan (listRows 0 l) ≡ o → listAnswer o ≡ accepted → FreshCore (listState o l)

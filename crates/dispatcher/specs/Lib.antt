@@ -1,5 +1,5 @@
 pub mod State
 pub mod Operations
-pub mod Answers
+pub mod Steps
 pub mod Starts
 pub mod OnTime

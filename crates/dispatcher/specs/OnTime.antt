@@ -4,24 +4,19 @@ use mathlib.Core.Path.{_≡_}
 use mathlib.Core.List.{List}
 use Rattle.sheet.specs.Records.{figures}
 use Rattle.fit.specs.Lists.{Each}
-use Rattle.fit.specs.Fits.{within}
-use Rattle.checker.specs.Tests.{orderOn}
+use Rattle.checker.specs.Tests.{orderOn, withinOn}
 use Rattle.timing.specs.Calls.{Call, accepted, log}
 use Rattle.timing.specs.OnTime.{count, isRefused, OnTime}
 use Rattle.dispatcher.specs.declared.Core.{Core}
 use Rattle.dispatcher.specs.declared.Step.{Step}
 use Rattle.dispatcher.specs.Operations.{answerOf, ask, step}
 
--- "w is the whole part of Q × M / D", of task i on core k as the sheet has them
-unfoldable pub withinOn : List ℕ → ℕ → ℕ → ℕ
-withinOn s k i = within (figures s .pivot k) (figures s .divisor k) (figures s .factor i)
-
 -- What holds of the log of a list of calls that begins with a state: the on-time rule with w and e of the sheet, and no 21. Beside it,
 -- e ≤ w ≤ p for every task of the core.
 pub record Kept (s : List ℕ) (k : ℕ) (start : Core) (cs : List Call) : Type 0 where
-  pub rule : OnTime (withinOn s k) (figures s .budget) (log ask step start cs)
+  pub rule : OnTime (withinOn (figures s) k) (figures s .budget) (log ask step start cs)
   pub never-foreign : count (isRefused 21) (log ask step start cs) ≡ 0
-  pub bounds : Each (λ i. (figures s .budget i ≤ withinOn s k i) × (withinOn s k i ≤ figures s .period i)) (orderOn (figures s) k)
+  pub bounds : Each (λ i. (figures s .budget i ≤ withinOn (figures s) k i) × (withinOn (figures s) k i ≤ figures s .period i)) (orderOn (figures s) k)
 
 -- The promise of a start from sheet s and core k with result r: if it is accepted, all this holds for every list of calls.
 pub record Timely (s : List ℕ) (k : ℕ) (r : Step) : Type 0 where

@@ -9,7 +9,8 @@ use lib.ListN.{length, replicate}
 use lib.Dec.{ltb}
 use Rattle.sheet.specs.Table.{Refused, scan}
 use Rattle.sheet.specs.Records.{figures}
-use Rattle.fit.specs.Priority.{order}
+use Rattle.fit.specs.declared.By.the-variants.{Period}
+use Rattle.fit.specs.Ring.{orderBy}
 use Rattle.fit.specs.Lists.{Each}
 use Rattle.checker.specs.Tests.{orderOn}
 use Rattle.jobs.specs.Jobs.{jobCount, jobPeriod, jobBudget, listRows}
@@ -59,13 +60,9 @@ unfoldable pub listAnswer : Option Refused → Answer
 listAnswer none = accepted
 listAnswer (some r) = refused (r .number) (r .place)
 
--- the first n entries of a job list in priority order; "a task's number is its place in the list"
-unfoldable pub inList : (ℕ → ℕ) → ℕ → List ℕ
-inList p n = order p (λ i. 0) 0 n
-
--- the state that is handed back: of the listed tasks where the start is accepted, else without tasks
+-- the state that is handed back: of the listed tasks in priority order, each numbered by its place in the list, where the start is accepted, else without tasks
 unfoldable pub listState : Option Refused → List ℕ → Core
-listState none l = stateOf (freshTasks (jobPeriod l) (jobBudget l) (inList (jobPeriod l) (jobCount l)))
+listState none l = stateOf (freshTasks (jobPeriod l) (jobBudget l) (orderBy Period (jobPeriod l) (jobCount l)))
 listState (some r) l = stateOf []
 
 -- what a start from a job list promises

@@ -4,6 +4,7 @@ use mathlib.Core.Bool.{Bool, true, not, _&&_, _||_}
 use mathlib.Core.List.{List, [], _∷_, _++_}
 use lib.ListN.{take, drop}
 use lib.Dec.{ltb, leb, eqb}
+use Rattle.fit.specs.Priority.{higher}
 use Rattle.timing.specs.declared.Task.{Task}
 use Rattle.timing.specs.Form.{Form}
 use Rattle.dispatcher.specs.declared.Core.{Core}
@@ -31,9 +32,9 @@ sound t =
 unfoldable pub distinct : Task → Task → Bool
 distinct t u = not (eqb (t .number) (u .number))
 
--- priority: shorter period first, lower number among equals
+-- the priority of one task over another
 unfoldable pub above : Task → Task → Bool
-above t u = ltb (t .period) (u .period) || eqb (t .period) (u .period) && ltb (t .number) (u .number)
+above t u = higher (t .period) (t .number) (u .period) (u .number)
 
 -- every task passes
 unfoldable pub each : (Task → Bool) → List Task → Bool

@@ -4,15 +4,17 @@ ghost use Prim.Native.Nat.{_+_, _*_, _≤_};
 ghost use mathlib.Core.List.{[], map};
 ghost use Rattle.sheet.specs.Records.{periodAt, budgetAt, coreAt};
 ghost use Rattle.fit.specs.Priority.{order};
+ghost use Rattle.fit.specs.declared.By.the-variants.{Period};
+ghost use Rattle.fit.specs.Ring.{orderBy};
 ghost use Rattle.fit.specs.Answers.{Column};
 ghost use Rattle.jobs.specs.Jobs.{jobPeriod, jobBudget};
 ghost use Rattle.timing.specs.Tasks.{pending, named, withJob, older};
 ghost use Rattle.timing.specs.Calls.{release, finish, tick};
 ghost use Rattle.dispatcher.specs.State.{tasksOf, withTasks, sound, foreign};
 ghost use Rattle.dispatcher.specs.Operations.{Operation};
-ghost use Rattle.dispatcher.specs.Starts.{freshTask, freshTasks, stateOf, inList, SheetStart, ListStart};
+ghost use Rattle.dispatcher.specs.Starts.{freshTask, freshTasks, stateOf, SheetStart, ListStart};
 ghost use Rattle.dispatcher.specs.OnTime.{Timely};
-ghost use Rattle.dispatcher.specs.Answers.{rank, placeOf, refusal};
+ghost use Rattle.dispatcher.specs.Steps.{rank, placeOf, refusal};
 use checker::Verdict;
 use fit::By;
 use sheet::Finding;
@@ -238,7 +240,7 @@ fn periods_of(list: &[u8], n: u8) -> [u16; 64]
 // The fresh state of a job list of n entries.
 fn of_list(list: &[u8], n: u8) -> Core
     requires { ⌜ n ≤ 64 ⌝ }
-    ensures { λ r. ⌜ r ≡ stateOf (freshTasks (jobPeriod (now (list .entry))) (jobBudget (now (list .entry))) (inList (jobPeriod (now (list .entry))) n)) ⌝ }
+    ensures { λ r. ⌜ r ≡ stateOf (freshTasks (jobPeriod (now (list .entry))) (jobBudget (now (list .entry))) (orderBy Period (jobPeriod (now (list .entry))) n)) ⌝ }
 {
     let periods = periods_of(list, n);
     let order = fit::sorted(By::Period, &periods, n);

@@ -7,8 +7,9 @@ use native.Mathlib.Nat.{add-zero, zero-add, suc-add, add-suc, add-sub-of-le, div
 use native.Mathlib.Omega.{arith}
 use lib.ListN.{length, take, drop, length-drop}
 use lib.Seq.{split-at, getD-take, getD-drop, length-take-le}
+use Rattle.fit.specs.Lists.{at}
 use Rattle.fit.specs.Fits.{Multiple}
-use Rattle.figures.specs.Constructions.{at, ceiling, down, downs, up, ups, dct}
+use Rattle.figures.specs.Constructions.{ceiling, down, downs, up, ups, dct}
 use Rattle.figures.proofs.Ceiling.{ceiling-reaches, ceiling-before, ceiling-positive, ceiling-scale}
 use Rattle.figures.proofs.Sound.{Rising, rising-at, Factors, Sound}
 

@@ -10,8 +10,10 @@ use lib.ListN.{length, take, drop, set, replicate, length-take, length-set, drop
 use lib.Seq.{drop-cons, getD-take, length-take-le, split-at, take-at}
 use mir.Syntax.{w32}
 use mir.Val.{Fits}
-use Rattle.figures.specs.Constructions.{at, down, downs, dct}
-use Rattle.figures.specs.Answers.{Ready, padded, written}
+use Rattle.fit.specs.Lists.{at, padded}
+use Rattle.figures.specs.Constructions.{down, downs, dct}
+use Rattle.figures.specs.Steps.{Ready}
+use Rattle.figures.specs.Answers.{written}
 use Rattle.figures.proofs.Lists.{length-map, at-map}
 use Rattle.figures.proofs.Sound.{Rising, Sound, divisor-bound, factors-at, factors-bound, factors-length}
 use Rattle.figures.proofs.Ranges.{periods, pivot-low, pivot-high, period-low, period-high}

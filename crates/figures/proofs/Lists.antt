@@ -6,9 +6,8 @@ use mathlib.Core.List.{List, [], _∷_, map}
 use native.Mathlib.Nat.{add-zero, add-suc, suc-add}
 use native.Mathlib.Omega.{arith}
 use lib.ListN.{length}
-use Rattle.fit.specs.Lists.{numbers, sum}
+use Rattle.fit.specs.Lists.{numbers, sum, at}
 use Rattle.fit.specs.Fits.{lastFactor}
-use Rattle.figures.specs.Constructions.{at}
 
 pub length-map : (f : ℕ → ℕ) (l : List ℕ) → length (map f l) ≡ length l
 length-map f [] = refl

@@ -12,13 +12,12 @@ use lib.ListN.{length}
 use lib.Dec.{ltb}
 use mir.Syntax.{w64}
 use mir.Val.{Fits}
-use Rattle.fit.specs.Lists.{numbers, sum}
+use Rattle.fit.specs.Lists.{numbers, sum, at}
 use Rattle.fit.specs.Fits.{lastFactor, load, overloaded}
 use Rattle.fit.proofs.Lists.{sum-numbers}
 use Rattle.figures.specs.declared.CoreFigures.{CoreFigures}
-use Rattle.figures.specs.Constructions.{at}
 use Rattle.figures.specs.Passing.{passes}
-use Rattle.figures.specs.Answers.{Usable, readBack}
+use Rattle.figures.specs.Steps.{Usable, readBack}
 
 -- the load of the first i places, with divisor d and last factor L
 unfoldable pub loadTo : List ℕ → List ℕ → ℕ → ℕ → ℕ → ℕ

@@ -10,11 +10,11 @@ use native.Mathlib.Omega.{arith}
 use borrow.Author.Tests.{le-leb, le-ltb, not-true}
 use lib.ListN.{length}
 use lib.Dec.{leb, ltb, eqb}
-use Rattle.fit.specs.Lists.{numbers, sum, Each}
+use Rattle.fit.specs.Lists.{numbers, sum, Each, at}
 use Rattle.fit.specs.Fits.{stretched, Multiples, lastFactor, load, overloaded}
 use Rattle.fit.proofs.Lists.{each-append}
 use Rattle.figures.specs.declared.Outcome.{Outcome}
-use Rattle.figures.specs.Constructions.{Acceleration, at, leastPower, largestPower, sr, dct}
+use Rattle.figures.specs.Constructions.{Acceleration, leastPower, largestPower, sr, dct}
 use Rattle.figures.specs.Passing.{passes, first, eachPivot, trials, rising, taskSet, firstPassing}
 use Rattle.figures.specs.Answers.{written, outcome}
 use Rattle.figures.proofs.Lists.{length-map, at-map, by-place, sum-by-place, last-by-place}

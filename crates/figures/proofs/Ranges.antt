@@ -5,8 +5,8 @@ use mathlib.Core.Path.{_≡_}
 use mathlib.Core.List.{List}
 use native.Mathlib.Omega.{arith}
 use lib.ListN.{length}
-use Rattle.figures.specs.Constructions.{at}
-use Rattle.figures.specs.Answers.{Ready}
+use Rattle.fit.specs.Lists.{at}
+use Rattle.figures.specs.Steps.{Ready}
 use Rattle.figures.proofs.Sound.{Rising, rising-test, rising-at}
 
 module _ (ps : List ℕ) (c : ℕ) (r : Ready ps c) where

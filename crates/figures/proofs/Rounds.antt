@@ -12,14 +12,15 @@ use borrow.Author.Tests.{le-leb, lt-leb, leb-true, eq-eqb, ne-eqb, eqb-true}
 use lib.ListN.{length, drop, drop-of-length-le}
 use lib.Seq.{drop-cons}
 use lib.Dec.{leb, eqb}
-use Rattle.fit.specs.Lists.{numbers}
+use Rattle.fit.specs.Lists.{numbers, at}
 use Rattle.figures.specs.declared.CoreFigures.{CoreFigures}
 use Rattle.figures.specs.declared.Outcome.{Outcome}
 use Rattle.figures.specs.declared.Kind.{Kind}
 use Rattle.figures.specs.declared.Kind.the-variants.{Sr, Dct}
-use Rattle.figures.specs.Constructions.{Acceleration, at, sr, dct}
+use Rattle.figures.specs.Constructions.{Acceleration, sr, dct}
 use Rattle.figures.specs.Passing.{passes, first, eachPivot, trials, rising, taskSet, firstPassing}
-use Rattle.figures.specs.Answers.{Ready, Usable, written, readBack, outcome, construction}
+use Rattle.figures.specs.Steps.{Ready, Usable, readBack, construction}
+use Rattle.figures.specs.Answers.{written, outcome}
 use Rattle.figures.proofs.Sound.{both-true, Sound, divisor-bound, factors-at, factors-bound}
 use Rattle.figures.proofs.Ranges.{periods}
 use Rattle.figures.proofs.SrLaws.{sr-sound}

@@ -9,8 +9,9 @@ use native.Mathlib.Omega.{arith}
 use borrow.Author.Tests.{leb-true}
 use lib.ListN.{length}
 use lib.Dec.{leb}
+use Rattle.fit.specs.Lists.{at}
 use Rattle.fit.specs.Fits.{Multiple}
-use Rattle.figures.specs.Constructions.{Acceleration, at}
+use Rattle.figures.specs.Constructions.{Acceleration}
 use Rattle.figures.specs.Passing.{rising}
 
 -- periods in priority order, none below a and none above 60,000

@@ -8,8 +8,9 @@ use native.Mathlib.Decide.{decLe}
 use native.Mathlib.Omega.{arith}
 use lib.ListN.{length}
 use lib.Pow.{pow-add}
+use Rattle.fit.specs.Lists.{at}
 use Rattle.fit.specs.Fits.{Multiple}
-use Rattle.figures.specs.Constructions.{at, Power, leastPower, largestPower, sr}
+use Rattle.figures.specs.Constructions.{Power, leastPower, largestPower, sr}
 use Rattle.figures.proofs.Powers.{Least, Largest, least-power, largest-power, power-positive, power-mono}
 use Rattle.figures.proofs.Lists.{at-map}
 use Rattle.figures.proofs.Sound.{Rising, rising-at, rising-pair, Factors, Sound}

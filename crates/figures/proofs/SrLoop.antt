@@ -8,8 +8,10 @@ use native.Mathlib.Omega.{arith}
 use lib.ListN.{length, set, replicate}
 use mir.Syntax.{w32, w64}
 use mir.Val.{Fits}
-use Rattle.figures.specs.Constructions.{at, Power, leastPower, largestPower, sr}
-use Rattle.figures.specs.Answers.{Ready, written}
+use Rattle.fit.specs.Lists.{at}
+use Rattle.figures.specs.Constructions.{Power, leastPower, largestPower, sr}
+use Rattle.figures.specs.Steps.{Ready}
+use Rattle.figures.specs.Answers.{written}
 use Rattle.figures.proofs.Lists.{length-map, at-map}
 use Rattle.figures.proofs.Sound.{Rising, rising-pair, Sound, divisor-bound, factors-bound}
 use Rattle.figures.proofs.Ranges.{periods, period-high}

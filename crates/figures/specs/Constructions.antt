@@ -3,18 +3,15 @@ use Prim.Native.Nat.{ℕ, zero, suc, _+_, _-_, _*_, _/_, _^_}
 use mathlib.Core.Path.{_≡_}
 use mathlib.Core.Bool.{cond}
 use mathlib.Core.List.{List, [], _∷_, _++_, map}
-use lib.ListN.{getD, take, drop}
+use lib.ListN.{take, drop}
 use lib.Dec.{leb}
+use Rattle.fit.specs.Lists.{at}
 
 -- The figures of a core: the accelerated period of the task at place i is the fraction Q × M / D, where M is its factor.
 pub record Acceleration : Type 0 where
   pub Q : ℕ
   pub D : ℕ
   pub factors : List ℕ
-
--- what stands at a place of a list, and 0 past its end
-abbrev pub at : List ℕ → ℕ → ℕ
-at l i = getD l i 0
 
 -- m is a power of b
 unfoldable pub Power : ℕ → ℕ → Type 0

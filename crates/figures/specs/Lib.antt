@@ -1,3 +1,4 @@
 pub mod Constructions
 pub mod Passing
 pub mod Answers
+pub mod Steps

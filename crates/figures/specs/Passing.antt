@@ -5,9 +5,9 @@ use mathlib.Core.Option.{Option, none, some}
 use mathlib.Core.List.{List, [], _∷_, _++_, map}
 use lib.ListN.{length}
 use lib.Dec.{leb, eqb}
-use Rattle.fit.specs.Lists.{numbers}
+use Rattle.fit.specs.Lists.{numbers, at}
 use Rattle.fit.specs.Fits.{overloaded}
-use Rattle.figures.specs.Constructions.{Acceleration, at, sr, dct}
+use Rattle.figures.specs.Constructions.{Acceleration, sr, dct}
 
 -- "load at most one": the tasks with these budgets are named by their places in priority order.
 unfoldable pub passes : List ℕ → Acceleration → Bool

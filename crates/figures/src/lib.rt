@@ -6,9 +6,11 @@ ghost use mathlib.Core.Bool.{true};
 ghost use mathlib.Core.Option.{none as noneOf};
 ghost use mathlib.Core.List.{map};
 ghost use lib.ListN.{length, take};
-ghost use Rattle.figures.specs.Constructions.{at, Power, leastPower, largestPower, sr as srOf, ceiling, down, downs, dct as dctOf};
+ghost use Rattle.fit.specs.Lists.{at, padded};
+ghost use Rattle.figures.specs.Constructions.{Power, leastPower, largestPower, sr as srOf, ceiling, down, downs, dct as dctOf};
 ghost use Rattle.figures.specs.Passing.{passes as passesOf, first, eachPivot, rising, taskSet, firstPassing};
-ghost use Rattle.figures.specs.Answers.{Ready, Usable, padded, written, readBack, outcome, construction};
+ghost use Rattle.figures.specs.Steps.{Ready, Usable, readBack, construction};
+ghost use Rattle.figures.specs.Answers.{written, outcome};
 
 // The pivot's period, the divisor, and the factors in priority order, then zeros.
 pub struct CoreFigures {

@@ -1,15 +1,23 @@
 -- Laws of lists: a property of each of a list and of each pair, sums, and how often a number stands in a list.
 -- Assumes nothing.
-use Prim.Native.Nat.{ℕ, zero, suc, _+_, _≤_, _<_, zero-le, suc-le-suc}
+use Prim.Native.Nat.{ℕ, zero, suc, _+_, _-_, _≤_, _<_, zero-le, suc-le-suc}
 use mathlib.Core.Path.{_≡_, refl, sym, ap, subst}
 use mathlib.Core.Bool.{Bool, true, false, cond}
 use mathlib.Core.List.{List, [], _∷_, _++_}
 use native.Mathlib.Nat.{zero-add, add-zero}
 use native.Mathlib.Omega.{arith}
 use borrow.Author.Tests.{eqb-true}
-use lib.ListN.{length, take, getD}
+use lib.ListN.{length, take, drop, getD, length-take, length-drop}
+use lib.Seq.{take-all}
 use lib.Dec.{eqb}
 use Rattle.fit.specs.Lists.{numbers, sum, select, occurs, Each, EachPair}
+
+-- a part from a place on is what is left from there, and a front has as many as it should
+pub part : (s : List ℕ) (a : ℕ) → take (length s - a) (drop a s) ≡ drop a s
+part s a = take-all (length s - a) (drop a s) (simp length-drop (omega arith))
+
+pub front-count : (l : List ℕ) (a : ℕ) → a ≤ length l → a ≡ length (take a l)
+front-count l a h = simp length-take (omega arith)
 
 -- what follows for one from one property, or from two, follows for each of a list
 pub each-of : {A : Type 0} {P Q : A → Type 0} (l : List A) → ((x : A) → P x → Q x) → Each P l → Each Q l

@@ -1,9 +1,9 @@
 -- One pass over a list of tasks, step by step as the code goes: the chain of factors and the load.
 -- Assumes nothing.
-use Prim.Native.Nat.{ℕ, zero, suc, _+_, _*_, _/_, _%_, _≤_, _<_, zero-le}
-use mathlib.Core.Path.{_≡_, refl, sym, ap, _∙_}
-use mathlib.Core.Bool.{Bool, true, false, not, cond, _&&_, and-false}
-use mathlib.Core.List.{List, [], _∷_}
+use Prim.Native.Nat.{ℕ, _+_, _*_, _/_, _%_, _≤_, _<_, zero-le}
+use mathlib.Core.Path.{_≡_, refl, sym, _∙_}
+use mathlib.Core.Bool.{Bool, true, false, not, _&&_, and-false}
+use mathlib.Core.List.{List}
 use native.Mathlib.Nat.{zero-add, mul-zero, div-zero, mul-le-mul, div-le-self, le-trans}
 use native.Mathlib.Numerals.{add-one}
 use native.Mathlib.Omega.{arith}
@@ -11,7 +11,6 @@ use borrow.Author.Tests.{le-leb, lt-leb, not-true, not-false}
 use lib.ListN.{length, getD, drop, drop-of-length-le}
 use lib.Seq.{drop-cons}
 use lib.Dec.{leb, eqb}
-use Rattle.fit.specs.declared.Chain.{Chain}
 use Rattle.fit.specs.declared.Chain.the-variants.{Whole, Broken}
 use Rattle.fit.specs.Lists.{sum}
 use Rattle.fit.specs.Fits.{chainBreak, lastFactor, load}

@@ -3,3 +3,4 @@ pub mod Priority
 pub mod Ring
 pub mod Fits
 pub mod Answers
+pub mod Steps

@@ -1,9 +1,18 @@
 -- Small functions on lists of task or core numbers, in which the rules of document 01 are written.
-use Prim.Native.Nat.{ℕ, zero, suc, _+_}
+use Prim.Native.Nat.{ℕ, zero, suc, _+_, _-_}
 use lib.Dec.{eqb}
 use mathlib.Core.Bool.{Bool, cond}
 use mathlib.Core.Option.{Option, none, some}
-use mathlib.Core.List.{List, [], _∷_}
+use mathlib.Core.List.{List, [], _∷_, _++_}
+use lib.ListN.{length, getD, replicate}
+
+-- what stands at a place of a list, and 0 past its end
+abbrev pub at : List ℕ → ℕ → ℕ
+at l i = getD l i 0
+
+-- a list in an array of 64 places, with zeros past it
+unfoldable pub padded : List ℕ → List ℕ
+padded l = l ++ replicate (64 - length l) 0
 
 -- the n numbers from a up
 unfoldable pub numbers : ℕ → ℕ → List ℕ

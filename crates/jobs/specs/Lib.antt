@@ -1,2 +1,2 @@
 pub mod Jobs
-pub mod Answers
+pub mod Steps

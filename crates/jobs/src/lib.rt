@@ -1,13 +1,13 @@
 // The job list: 4-byte entries with a period and a budget, and its refusals.
 ghost use mathlib.Core.Path.{_≡_};
 ghost use mathlib.Core.Bool.{not, _||_};
-ghost use Prim.Native.Nat.{_%_, _≤_};
+ghost use Prim.Native.Nat.{_%_};
 ghost use lib.ListN.{length};
 ghost use lib.Dec.{ltb, eqb};
 ghost use Rattle.sheet.specs.Table.{scan, foundOf, findingOf};
 ghost use Rattle.fit.specs.Lists.{numbers, find};
 ghost use Rattle.jobs.specs.Jobs.{jobCount, jobPeriod, jobBudget, listRows};
-ghost use Rattle.jobs.specs.Answers.{broken};
+ghost use Rattle.jobs.specs.Steps.{broken};
 use sheet::Finding;
 use sheet::Found;
 use sheet::Refusal;

@@ -2,7 +2,7 @@
 -- Assumes nothing.
 use Prim.Native.Nat.{ℕ}
 use mathlib.Core.Path.{_≡_, refl}
-use mathlib.Core.List.{List, [], _∷_, _++_}
+use mathlib.Core.List.{List, [], _∷_}
 use lib.ListN.{take}
 use Rattle.jobtext.specs.declared.Read.the-variants.{Jobs, Wrong}
 use Rattle.jobtext.specs.Text.{longer, begun, digit, inLine, lineEnd, step, run, finish, readOf}

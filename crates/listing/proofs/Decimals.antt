@@ -12,7 +12,7 @@ use mir.Syntax.{w32}
 use mir.Val.{Fits}
 use Rattle.listing.specs.Decimal.{digits, decimal}
 use Rattle.listing.specs.Listing.{field}
-use Rattle.listing.specs.Answers.{Put, Capped}
+use Rattle.listing.specs.Steps.{Put, Capped}
 use Rattle.listing.proofs.Writing.{put-join}
 
 -- any two bounds above a number give the same digits

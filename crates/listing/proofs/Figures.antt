@@ -22,13 +22,6 @@ use Rattle.checker.specs.Tests.{orderOn}
 use Rattle.checker.specs.Accepted.{Fitting, LoadAtMostOne}
 use Rattle.listing.specs.Listing.{thousandths, loadOf}
 
--- a period times a factor
-pub product-bound : (q m : ℕ) → q < 65536 → m < 4294967296 → q * m ≤ 281470681677825
-product-bound q m a b =
-    let x : q ≤ 65535 = omega arith in
-    let y : m ≤ 4294967295 = omega arith in
-    mul-le-mul x y
-
 -- within is at most the period
 module _ (f : Figures) (i k : ℕ) (g : Fitting f) (h : i < f .tasks) (e : k ≡ f .core i) where
   pub within-divisor : (d : ℕ) → d ≡ f .divisor k → 0 < d

@@ -11,10 +11,10 @@ use Rattle.sheet.specs.Records.{Figures}
 use Rattle.fit.specs.Lists.{Each}
 use Rattle.fit.specs.Fits.{within, load, lastFactor}
 use Rattle.fit.proofs.Lists.{each-append}
-use Rattle.checker.specs.Tests.{orderOn}
+use Rattle.checker.specs.Tests.{orderOn, withinOn}
 use Rattle.checker.specs.Accepted.{Fitting, LoadAtMostOne}
 use Rattle.listing.specs.Decimal.{decimal}
-use Rattle.listing.specs.Listing.{withinOf, thousandths, loadOf}
+use Rattle.listing.specs.Listing.{thousandths, loadOf}
 use Rattle.listing.proofs.Decimals.{decimal-one, decimal-more, length-above, decimal-induction}
 use Rattle.listing.proofs.Figures.{thousand, last-above}
 
@@ -52,8 +52,8 @@ rounded : (a b : ℕ) → 0 < b → (a / b * b ≤ a) × (a < (a / b + 1) * b)
 rounded a b h = (div-mul-le-self a b, rw (mul-comm (a / b + 1) b) (lt-mul-div-succ a h))
 
 -- "within" is the whole part of Q × M / D, of each task of an accepted sheet.
-pub within-shown : (f : Figures) (i : ℕ) → Fitting f → i < f .tasks → (withinOf f i * f .divisor (f .core i) ≤ f .pivot (f .core i) * f .factor i) × (f .pivot (f .core i) * f .factor i < (withinOf f i + 1) * f .divisor (f .core i))
-unfolding withinOf within
+pub within-shown : (f : Figures) (i : ℕ) → Fitting f → i < f .tasks → (withinOn f (f .core i) i * f .divisor (f .core i) ≤ f .pivot (f .core i) * f .factor i) × (f .pivot (f .core i) * f .factor i < (withinOn f (f .core i) i + 1) * f .divisor (f .core i))
+unfolding withinOn within
 within-shown f i g h = rounded _ _ (g .divisor (f .core i) (g .core i h) .0)
 
 -- The load shown of each core is its exact load, of which Q × L is the whole, in thousandths rounded down; it is at most 1000.

@@ -18,14 +18,14 @@ use Rattle.fit.specs.Lists.{numbers, find, orElse, findSome, Each}
 use Rattle.fit.specs.Fits.{chainBreak}
 use Rattle.fit.proofs.Lists.{each-of, each-append, numbers-length}
 use Rattle.fit.proofs.Priority.{order-members}
-use Rattle.checker.specs.Tests.{taskSpares, coreSpares, orderOn, chainBreakOn}
+use Rattle.checker.specs.Tests.{taskSpares, coreSpares, orderOn, chainBreakOn, withinOn}
 use Rattle.checker.specs.Rules.{offset, frameRows, spareRows, taskRows, coreRows, fitRows, recordRows, rules}
 use Rattle.checker.specs.Accepted.{Acceptable, Fitting}
 use Rattle.checker.specs.Verdict.{refused, outcome, verdict}
 use Rattle.checker.proofs.Acceptance.{accepted-exactly}
 use Rattle.listing.specs.Words.{space, lineFeed}
 use Rattle.listing.specs.Words as the
-use Rattle.listing.specs.Listing.{headerLine, withinOf, taskLine, loadOf, coreLine, lines, sheetText, refusedLine, textOf, listingOf}
+use Rattle.listing.specs.Listing.{headerLine, taskLine, loadOf, coreLine, lines, sheetText, refusedLine, textOf, listingOf}
 use Rattle.listing.proofs.Decimals.{field-short}
 use Rattle.listing.proofs.Figures.{within-small}
 use Rattle.listing.proofs.Laws.{load-most}
@@ -48,14 +48,14 @@ refused-short number place a b =
 
 module _ (f : Figures) (g : Fitting f) (few : f .cores ≤ 8) where
   task-short : (i : ℕ) → i < f .tasks → i ≤ 64 → length (taskLine f i) ≤ 114
-  unfolding taskLine withinOf
+  unfolding taskLine withinOn
   task-short i h s =
       let a = field-short the.task i space (omega arith) (fits _ (omega arith)) in
       let b = field-short the.core (f .core i) space (omega arith) (fits _ (omega (arith, g .core i h))) in
       let c = field-short the.period (f .period i) space (omega arith) (fits _ (omega (arith, g .period i h .1))) in
       let d = field-short the.budget (f .budget i) space (omega arith) (fits _ (omega (arith, g .budget i h .1, g .period i h .1))) in
       let e = field-short the.factor (f .factor i) space (omega arith) (fits _ (g .factor i h .1)) in
-      let w = field-short the.within (withinOf f i) lineFeed (omega arith) (fits _ (le-trans (within-small f i (f .core i) g h refl _ _ _ refl refl refl) (omega arith))) in
+      let w = field-short the.within (withinOn f (f .core i) i) lineFeed (omega arith) (fits _ (le-trans (within-small f i (f .core i) g h refl _ _ _ refl refl refl) (omega arith))) in
       simp length-append (omega (arith, a, b, c, d, e, w))
 
   core-short : (k : ℕ) → k < f .cores → length (coreLine f k) ≤ 76

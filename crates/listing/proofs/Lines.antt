@@ -11,18 +11,19 @@ use Rattle.sheet.specs.Records.{Figures}
 use Rattle.fit.specs.Lists.{numbers}
 use Rattle.fit.specs.Fits.{within}
 use Rattle.fit.proofs.Lists.{numbers-last}
+use Rattle.checker.specs.Tests.{withinOn}
 use Rattle.listing.specs.Words.{space, lineFeed}
 use Rattle.listing.specs.Words as the
-use Rattle.listing.specs.Listing.{field, withinOf, taskLine, loadOf, coreLine, lines}
-use Rattle.listing.specs.Answers.{Capped}
+use Rattle.listing.specs.Listing.{field, taskLine, loadOf, coreLine, lines}
+use Rattle.listing.specs.Steps.{Capped}
 use Rattle.listing.proofs.Writing.{capped-none, capped-join}
 
 module _ (f : Figures) (out new : List ℕ) (at after most : ℕ) where
   pub task-line : (i k p e m w q d : ℕ) → Capped most out at (field the.task i space ++ field the.core k space ++ field the.period p space ++ field the.budget e space ++ field the.factor m space ++ field the.within w lineFeed) new after
       → k ≡ f .core i → p ≡ f .period i → e ≡ f .budget i → m ≡ f .factor i → q ≡ f .pivot k → d ≡ f .divisor k → w ≡ within q d m → Capped most out at (taskLine f i) new after
-  unfolding taskLine withinOf
+  unfolding taskLine withinOn
   task-line i k p e m w q d t ek ep ee em eq ed ew =
-      let x : w ≡ withinOf f i = rw (ew, em, eq, ed, ek) refl in
+      let x : w ≡ withinOn f (f .core i) i = rw (ew, em, eq, ed, ek) refl in
       rw (ek, ep, ee, em, x) at t
 
   pub core-line : (k q d x : ℕ) → Capped most out at (field the.core k space ++ field the.pivot q space ++ field the.divisor d space ++ field the.load x lineFeed) new after

@@ -20,11 +20,12 @@ use Rattle.checker.specs.declared.Verdict.the-variants.{Accepted, Refused as Tu
 use Rattle.checker.specs.Accepted.{Acceptable, Fitting}
 use Rattle.checker.specs.Verdict.{accepted, verdict, outcomeOf}
 use Rattle.checker.proofs.Acceptance.{accepted-exactly}
-use Rattle.checker.proofs.Clear.{part}
+use Rattle.fit.proofs.Lists.{part}
 use Rattle.listing.specs.declared.Listed.{Listed}
 use Rattle.listing.specs.declared.Listed.the-variants.{Written}
 use Rattle.listing.specs.Listing.{headerLine, taskLine, coreLine, lines, sheetText, refusedLine, textOf, listingOf}
-use Rattle.listing.specs.Answers.{written, refused, listed, holding, answerOf, Put, Capped}
+use Rattle.listing.specs.Steps.{Put, Capped}
+use Rattle.listing.specs.Answers.{written, refused, listed, holding, answerOf}
 use Rattle.listing.proofs.Writing.{put-join}
 
 module _ (s : List ℕ) (n c : ℕ) (v : verdict s ≡ accepted n c) where

@@ -8,7 +8,7 @@ use native.Mathlib.Numerals.{add-one}
 use native.Mathlib.Omega.{arith}
 use lib.ListN.{length, take, drop, set, getD, length-append, length-take, length-drop, take-append-drop}
 use lib.Seq.{take-suc, take-all, drop-drop, take-at, drop-at, set-split}
-use Rattle.listing.specs.Answers.{Put, Capped}
+use Rattle.listing.specs.Steps.{Put, Capped}
 
 -- nothing, and one byte
 pub put-none : (out : List ℕ) (at : ℕ) → at ≤ length out → Put out at [] out at

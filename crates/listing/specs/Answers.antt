@@ -1,9 +1,8 @@
--- What the call answers and what the lent buffer then holds; and what the code's own steps write.
-use Prim.Native.Nat.{ℕ, _+_, _≤_}
-use mathlib.Core.Path.{_≡_}
+-- What the call answers, and what the lent buffer then holds.
+use Prim.Native.Nat.{ℕ, _+_}
 use mathlib.Core.Bool.{cond}
 use mathlib.Core.List.{List, _++_}
-use lib.ListN.{length, take, drop}
+use lib.ListN.{length, drop}
 use lib.Dec.{ltb}
 use Rattle.listing.specs.declared.Listed.{Listed}
 use Rattle.listing.specs.declared.Listed.the-variants.{Written, Tight}
@@ -26,14 +25,3 @@ holding s out = cond (ltb (length out) 8192) out (listingOf s ++ drop (length (l
 abbrev pub answerOf : Listed → Answer
 answerOf (Written n) = written n
 answerOf Tight = refused 16 0
-
--- a text is written into a buffer from a place on, and nothing else
-pub record Put (out : List ℕ) (at : ℕ) (text new : List ℕ) (after : ℕ) : Type 0 where
-  pub bytes : new ≡ take at out ++ (text ++ drop after out)
-  pub next : after ≡ at + length text
-  pub room : after ≤ length out
-
--- the same of a text of at most so many bytes
-pub record Capped (most : ℕ) (out : List ℕ) (at : ℕ) (text new : List ℕ) (after : ℕ) : Type 0 where
-  pub put : Put out at text new after
-  pub cap : after ≤ at + most

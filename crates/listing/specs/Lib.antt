@@ -2,3 +2,4 @@ pub mod Decimal
 pub mod Words
 pub mod Listing
 pub mod Answers
+pub mod Steps

@@ -4,8 +4,8 @@ use mathlib.Core.List.{List, [], _∷_, _++_}
 use Rattle.sheet.specs.Numbers.{word}
 use Rattle.sheet.specs.Records.{Figures, figures}
 use Rattle.fit.specs.Lists.{numbers}
-use Rattle.fit.specs.Fits.{within, load, lastFactor}
-use Rattle.checker.specs.Tests.{orderOn}
+use Rattle.fit.specs.Fits.{load, lastFactor}
+use Rattle.checker.specs.Tests.{orderOn, withinOn}
 use Rattle.checker.specs.Verdict.{Outcome, accepted, refused, verdict}
 use Rattle.listing.specs.Decimal.{decimal}
 use Rattle.listing.specs.Words.{space, lineFeed}
@@ -20,9 +20,6 @@ unfoldable pub headerLine : ℕ → ℕ → ℕ → List ℕ
 headerLine version n c = field the.mark version space ++ field the.tasks n space ++ field the.cores c lineFeed
 
 -- '"within" is w', with Q and D of the task's core
-unfoldable pub withinOf : Figures → ℕ → ℕ
-withinOf f i = within (f .pivot (f .core i)) (f .divisor (f .core i)) (f .factor i)
-
 unfoldable pub taskLine : Figures → ℕ → List ℕ
 taskLine f i =
     field the.task i space
@@ -30,7 +27,7 @@ taskLine f i =
     ++ field the.period (f .period i) space
     ++ field the.budget (f .budget i) space
     ++ field the.factor (f .factor i) space
-    ++ field the.within (withinOf f i) lineFeed
+    ++ field the.within (withinOn f (f .core i) i) lineFeed
 
 -- a load in thousandths of a full one, "rounded down"
 unfoldable pub thousandths : ℕ → ℕ → ℕ

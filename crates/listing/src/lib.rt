@@ -12,7 +12,8 @@ ghost use Rattle.checker.specs.Accepted.{Fitting};
 ghost use Rattle.checker.specs.Verdict.{verdict, accepted};
 ghost use Rattle.listing.specs.Decimal.{decimal};
 ghost use Rattle.listing.specs.Listing.{field, headerLine, taskLine, thousandths, loadOf, coreLine, lines, sheetText, refusedLine};
-ghost use Rattle.listing.specs.Answers.{Put, Capped, listed, holding, answerOf};
+ghost use Rattle.listing.specs.Steps.{Put, Capped};
+ghost use Rattle.listing.specs.Answers.{listed, holding, answerOf};
 use checker::Verdict;
 use fit::Chain;
 
@@ -93,19 +94,12 @@ fn put_header(out: &mut [u8], version: u16, n: u8, c: u8) -> usize
     put_field(out, next, b"cores ", c as u32, b'\n')
 }
 
-// The product of a period and a factor.
-fn product(q: u16, m: u32) -> u64
-    ensures { λ r. ⌜ r ≡ q * m ⌝ }
-{
-    (q as u64) * (m as u64)
-}
-
 // The whole part of q * m / d.
 fn within_of(q: u16, m: u32, d: u32) -> u32
     requires { ⌜ (0 < d) × (within q d m ≤ 60000) ⌝ }
     ensures { λ r. ⌜ r ≡ within q d m ⌝ }
 {
-    (product(q, m) / (d as u64)) as u32
+    (fit::product(q, m) / (d as u64)) as u32
 }
 
 fn put_task(out: &mut [u8], at: usize, tasks: &[u8], cores: &[u8], n: u8, c: u8, i: u8) -> usize
@@ -160,7 +154,7 @@ fn load_of(tasks: &[u8], cores: &[u8], n: u8, c: u8, k: u8) -> u32
         Chain::Broken(_) => 0,
         Chain::Whole(last) => {
             let load = fit::load_of(tasks, &list[..count], sheet::divisor(cores, k), last);
-            in_thousandths(load, product(sheet::pivot(cores, k), last))
+            in_thousandths(load, fit::product(sheet::pivot(cores, k), last))
         }
     }
 }

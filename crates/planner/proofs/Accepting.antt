@@ -12,12 +12,12 @@ use lib.ListN.{length, drop, getD, length-append}
 use lib.Seq.{drop-at, getD-append-add}
 use Rattle.sheet.specs.Numbers.{word, long}
 use Rattle.sheet.specs.Records.{Figures, figures}
-use Rattle.fit.specs.Lists.{numbers, occurs, Each, EachPair}
+use Rattle.fit.specs.Lists.{numbers, occurs, Each, EachPair, at}
 use Rattle.fit.specs.Fits.{stretched, overloaded}
 use Rattle.fit.proofs.Lists.{each-of, each-both, each-occurs}
 use Rattle.fit.proofs.Priority.{order-members, order-rising, order-holds, order-ext}
 use Rattle.fit.proofs.Selecting.{order-core-ext, rising-differ}
-use Rattle.figures.specs.Constructions.{Acceleration, at}
+use Rattle.figures.specs.Constructions.{Acceleration}
 use Rattle.figures.specs.Passing.{firstPassing}
 use Rattle.figures.proofs.Sound.{factors-length}
 use Rattle.figures.proofs.Passing.{Accepted, passing-sound, passing-accepted}

@@ -16,7 +16,7 @@ use Rattle.sheet.specs.declared.Found.{Found}
 use Rattle.sheet.specs.declared.Found.the-variants.{At, Nothing}
 use Rattle.sheet.specs.Table.{foundOf}
 use Rattle.fit.specs.declared.Order.{Order}
-use Rattle.fit.specs.Lists.{numbers, find, select}
+use Rattle.fit.specs.Lists.{numbers, find, select, at}
 use Rattle.fit.specs.Ring.{orderBy}
 use Rattle.fit.specs.Answers.{Ordered}
 use Rattle.fit.proofs.Priority.{order-count}
@@ -24,15 +24,15 @@ use Rattle.fit.proofs.Selecting.{select-order}
 use Rattle.fit.proofs.Finds.{find-some}
 use Rattle.jobs.specs.Jobs.{jobCount, jobPeriod, jobBudget}
 use Rattle.figures.specs.declared.Outcome.{Outcome}
-use Rattle.figures.specs.Constructions.{Acceleration, at}
+use Rattle.figures.specs.Constructions.{Acceleration}
 use Rattle.figures.specs.Passing.{firstPassing}
 use Rattle.figures.specs.Answers.{outcome}
 use Rattle.planner.specs.declared.Assignment.{Assignment}
 use Rattle.planner.specs.declared.Fitted.{Fitted}
 use Rattle.planner.specs.declared.TaskSet.{TaskSet}
 use Rattle.planner.specs.FirstFit.{rotate, unassigned, coreSet, coreFigures, isSome, takes, chosen, coreFor, assign, placed, unplaced, onward, firstFit}
-use Rattle.planner.specs.Answers.{Prioritized, on, Gathered, fitBy, fitted}
-use Rattle.checker.proofs.Clear.{part}
+use Rattle.planner.specs.Steps.{Prioritized, on, Gathered, fitBy, fitted}
+use Rattle.fit.proofs.Lists.{part}
 
 -- the priority order has at most 64 tasks
 pub prioritized-few : (l order : List ℕ) → Prioritized l order → length order ≤ 64
@@ -53,9 +53,6 @@ ordered-room l x o h e = omega (arith, h .count)
 
 pub ordered-front : (l x : List ℕ) (o : Order) → Ordered l o → length x ≡ 64 → o .count ≡ length (take (o .count) x)
 ordered-front l x o h e = simp length-take (omega (arith, h .count))
-
-pub front-count : (l : List ℕ) (a : ℕ) → a ≤ length l → a ≡ length (take a l)
-front-count l a h = simp length-take (omega arith)
 
 pub figures-found : (l order core : List ℕ) (k : ℕ) (o : Order) (s : TaskSet) (r : Outcome) → Prioritized l order → Ordered (select (on core k) order) o → Gathered l (take (o .count) (o .tasks)) s → r ≡ outcome (firstPassing (take (o .count) (s .periods)) (take (o .count) (s .budgets))) → r ≡ outcome (coreFigures (jobPeriod l) (jobBudget l) (jobCount l) core k)
 unfolding coreFigures

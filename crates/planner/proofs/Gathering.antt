@@ -10,13 +10,12 @@ use borrow.Author.Tests.{not-true, not-false, ne-eqb}
 use lib.ListN.{length, take, drop, getD, set, length-set, drop-of-length-le}
 use lib.Seq.{take-suc, take-suc-set, take-all, drop-cons, set-out}
 use lib.Dec.{leb, eqb}
-use Rattle.fit.specs.Lists.{select}
+use Rattle.fit.specs.Lists.{select, at}
 use Rattle.sheet.proofs.Past.{past}
 use Rattle.fit.specs.Answers.{Column, Ordered}
-use Rattle.figures.specs.Constructions.{at}
 use Rattle.jobs.specs.Jobs.{jobPeriod, jobBudget}
 use Rattle.planner.specs.Plan.{badStart}
-use Rattle.planner.specs.Answers.{on, Gathered, spread}
+use Rattle.planner.specs.Steps.{on, Gathered, spread}
 
 -- a column up to n
 pub column-end : (f : ℕ → ℕ) (i n : ℕ) (list : List ℕ) → i ≤ n → n ≤ i → Column f i list → Column f n list

@@ -20,11 +20,11 @@ use Rattle.sheet.proofs.Scans.{scan-first, scan-second, scan-clears, scan-clear
 use Rattle.fit.specs.declared.By.{By}
 use Rattle.fit.specs.declared.By.the-variants.{Period, Ring}
 use Rattle.fit.specs.declared.Order.{Order}
-use Rattle.fit.specs.Lists.{numbers, select}
+use Rattle.fit.specs.Lists.{numbers, select, at}
 use Rattle.fit.specs.Priority.{tasksOn}
 use Rattle.fit.proofs.Lists.{numbers-length}
 use Rattle.fit.specs.Ring.{ringKey, keyOf, orderBy}
-use Rattle.fit.specs.Answers.{at, Column, Ordered}
+use Rattle.fit.specs.Answers.{Column, Ordered}
 use Rattle.fit.proofs.Priority.{order-ext, order-length}
 use Rattle.jobs.specs.Jobs.{jobCount, jobPeriod, jobBudget, listRows}
 use Rattle.jobs.proofs.Laws.{Listed, listed}
@@ -33,7 +33,7 @@ use Rattle.planner.specs.declared.Fitted.{Fitted}
 use Rattle.planner.specs.FirstFit.{rotate, unassigned, placed, unplaced, firstFit}
 use Rattle.planner.specs.Sheet.{sheetOf}
 use Rattle.planner.specs.Plan.{fitOf, badStart, noFit, callRows, planRows, sheetFor, coresFor, written, refused, unless, planOutcome, over, laidOver, planOutput}
-use Rattle.planner.specs.Answers.{Prioritized, Assigned, fitBy, fitted}
+use Rattle.planner.specs.Steps.{Prioritized, Assigned, fitBy, fitted}
 use Rattle.planner.proofs.Settling.{fit-settled}
 use Rattle.planner.proofs.Accepting.{sheet-accepted}
 

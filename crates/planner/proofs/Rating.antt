@@ -14,19 +14,19 @@ use lib.Dec.{eqb}
 use lib.ListN.{length, take, set, replicate, length-set, List·getD-append, List·getD-eq-default, getD-replicate, length-replicate}
 use lib.Seq.{getD-set-same, getD-set-other, getD-append-add}
 use Rattle.fit.specs.declared.Order.{Order}
-use Rattle.fit.specs.Lists.{select, occurs, Each, EachPair}
+use Rattle.fit.specs.Lists.{select, occurs, Each, EachPair, at, padded}
 use Rattle.fit.specs.Answers.{Ordered}
 use Rattle.fit.proofs.Lists.{each-of}
 use Rattle.fit.proofs.Priority.{order-members, order-rising, order-holds}
 use Rattle.fit.proofs.Selecting.{rising-differ}
 use Rattle.jobs.specs.Jobs.{jobCount, jobPeriod, jobBudget}
 use Rattle.figures.specs.declared.Outcome.{Outcome}
-use Rattle.figures.specs.Constructions.{Acceleration, at}
-use Rattle.figures.specs.Answers.{padded, written, outcome}
+use Rattle.figures.specs.Constructions.{Acceleration}
+use Rattle.figures.specs.Answers.{written, outcome}
 use Rattle.planner.specs.declared.Assignment.{Assignment}
 use Rattle.planner.specs.FirstFit.{coreSet, coreFigures}
 use Rattle.planner.specs.Sheet.{orZeros, figuresFor, placeOf, factorFor}
-use Rattle.planner.specs.Answers.{Prioritized, Assigned, on, spread, Rated}
+use Rattle.planner.specs.Steps.{Prioritized, Assigned, on, spread, Rated}
 use Rattle.planner.proofs.Fitting.{picked}
 
 -- what spreading leaves at a number that is not listed, and at one that is

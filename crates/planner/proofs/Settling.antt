@@ -14,20 +14,19 @@ use lib.Seq.{getD-set-same, getD-set-other}
 use lib.Arith.{lt-of-le-ne}
 use lib.Dec.{eqb}
 use Rattle.fit.specs.declared.By.the-variants.{Ring}
-use Rattle.fit.specs.Lists.{Each, EachPair}
+use Rattle.fit.specs.Lists.{Each, EachPair, at}
 use Rattle.fit.specs.Ring.{keyOf, orderBy}
 use Rattle.fit.proofs.Lists.{each-of, each-both, each-all, each-append, each-halves, each-occurs, pairs-append}
 use Rattle.fit.proofs.Priority.{order-members, order-rising, order-holds}
 use Rattle.fit.proofs.Selecting.{order-core-ext, order-alone, rising-differ}
 use Rattle.jobs.specs.Jobs.{jobCount, jobPeriod, jobBudget}
 use Rattle.jobs.proofs.Laws.{Listed}
-use Rattle.figures.specs.Constructions.{at}
 use Rattle.figures.specs.Passing.{firstPassing}
 use Rattle.figures.proofs.Passing.{alone}
 use Rattle.planner.specs.declared.Assignment.{Assignment}
 use Rattle.planner.specs.FirstFit.{rotate, unassigned, coreSet, coreFigures, isSome, takes, coreFor, assign, placed, onward, firstFit}
 use Rattle.planner.specs.Plan.{fitOf}
-use Rattle.planner.specs.Answers.{Assigned}
+use Rattle.planner.specs.Steps.{Assigned}
 use Rattle.planner.proofs.Fitting.{core-choice}
 
 -- at each step of the walk: a task is on an open core or on none, the tasks of each open core pass, and it has some

@@ -10,14 +10,13 @@ use lib.ListN.{length, take, drop, getD, length-append, length-drop, drop-of-len
 use lib.Seq.{sets, sets-eq, drop-drop, take-at, drop-at}
 use borrow.Rule.Slice.PartMut.{putMid}
 use Rattle.fit.specs.Lists.{numbers}
-use Rattle.fit.proofs.Lists.{numbers-last}
+use Rattle.fit.proofs.Lists.{numbers-last, part}
 use Rattle.jobs.specs.Jobs.{jobCount, jobPeriod, jobBudget}
-use Rattle.checker.proofs.Clear.{part}
 use Rattle.planner.specs.declared.Assignment.{Assignment}
 use Rattle.planner.specs.declared.Rates.{Rates}
 use Rattle.planner.specs.Sheet.{two, four, header, taskRecord, coreRecord, records, figuresFor, factorFor, sheetOf}
 use Rattle.planner.specs.Plan.{over}
-use Rattle.planner.specs.Answers.{Prioritized, Assigned, Rated, taskBytes, coreBytes}
+use Rattle.planner.specs.Steps.{Prioritized, Assigned, Rated, taskBytes, coreBytes}
 
 -- stores from the front on
 pub stores : (s l : List ℕ) → length s ≤ length l → sets l 0 s ≡ over s l

@@ -5,9 +5,9 @@ use mathlib.Core.Option.{Option, none, some}
 use mathlib.Core.List.{List, [], _∷_, _++_, map}
 use lib.ListN.{set, take, drop, replicate}
 use lib.Dec.{ltb}
-use Rattle.fit.specs.Lists.{numbers, find}
+use Rattle.fit.specs.Lists.{numbers, find, at}
 use Rattle.fit.specs.Priority.{order}
-use Rattle.figures.specs.Constructions.{Acceleration, at}
+use Rattle.figures.specs.Constructions.{Acceleration}
 use Rattle.figures.specs.Passing.{firstPassing}
 use Rattle.planner.specs.declared.Assignment.{Assignment}
 

@@ -1,4 +1,4 @@
 pub mod FirstFit
 pub mod Sheet
 pub mod Plan
-pub mod Answers
+pub mod Steps

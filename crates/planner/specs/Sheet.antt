@@ -4,8 +4,8 @@ use mathlib.Core.Bool.{cond}
 use mathlib.Core.Option.{Option, none, some}
 use mathlib.Core.List.{List, [], _∷_, _++_}
 use lib.Dec.{eqb}
-use Rattle.fit.specs.Lists.{numbers}
-use Rattle.figures.specs.Constructions.{Acceleration, at}
+use Rattle.fit.specs.Lists.{numbers, at}
+use Rattle.figures.specs.Constructions.{Acceleration}
 use Rattle.planner.specs.declared.Assignment.{Assignment}
 use Rattle.planner.specs.FirstFit.{coreSet, coreFigures}
 

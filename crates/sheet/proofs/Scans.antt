@@ -1,7 +1,7 @@
 -- The table read from the top, as the code's returns have it: a row that is broken, a row that is passed, and how a row's place is found.
 -- Assumes nothing.
 use Prim.Native.Nat.{ℕ, _+_}
-use mathlib.Core.Path.{_≡_, refl, sym, ap, _∙_}
+use mathlib.Core.Path.{_≡_, refl}
 use mathlib.Core.Bool.{Bool, true, false}
 use mathlib.Core.Option.{Option, none, some, Option·some-ne-none, Option·none-ne-some}
 use mathlib.Core.List.{List, [], _∷_, _++_}

@@ -10,12 +10,12 @@ use Rattle.fit.specs.Lists.{Each, EachPair}
 use Rattle.fit.proofs.Lists.{each-of}
 use Rattle.timing.specs.declared.Task.{Task}
 use Rattle.timing.specs.Tasks.{pending, named, withJob, released, finished, used, older}
-use Rattle.timing.specs.Calls.{Call, release, finish, tick, Answer, accepted, refused, releaseAnswer, finishAnswer, modify, answer, next, Entry, entry, log, run}
+use Rattle.timing.specs.Calls.{Call, release, finish, tick, Answer, accepted, refused, releaseAnswer, finishAnswer, modify, answer, next, Entry, entry, log, run, calls}
 use Rattle.timing.specs.Form.{Distinct, Form, Fresh}
 use Rattle.timing.specs.OnTime.{count, toTick, isTick, isAccepted}
 use Rattle.timing.specs.Serving.{isRelease, toRelease, AgeCounts}
 use Rattle.timing.proofs.Lists.{each-map}
-use Rattle.timing.proofs.Runs.{calls, Logged, logged, run-log, log-split, count-cons}
+use Rattle.timing.proofs.Runs.{Logged, logged, run-log, log-split, count-cons}
 use Rattle.timing.proofs.Steps.{Release, is-early, is-late, starts, release-view, release-started, finished-cases, Changed, nowhere, here, later, changed-named, changed-pending, each-hit, each-changed}
 use Rattle.timing.proofs.Form.{form-run}
 

@@ -6,10 +6,10 @@ use mathlib.Core.List.{List, [], _∷_, _++_}
 use native.Mathlib.Omega.{arith}
 use lib.Seq.{append-snoc}
 use Rattle.timing.specs.declared.Task.{Task}
-use Rattle.timing.specs.Calls.{Call, release, tick, Answer, accepted, Entry, entry, log, run}
+use Rattle.timing.specs.Calls.{Call, release, tick, Answer, accepted, Entry, entry, log, run, calls}
 use Rattle.timing.specs.OnTime.{count, toTick, isTick, isRun, isFinish, isRefused, Ended, OnTime}
 use Rattle.timing.proofs.Lists.{zero-or-pos}
-use Rattle.timing.proofs.Runs.{calls, run-kept, Logged, logged-append, log-split, count-cons, count-append}
+use Rattle.timing.proofs.Runs.{run-kept, Logged, logged-append, log-split, count-cons, count-append}
 
 -- A job goes on over one entry of a log, from t to t′: what it loses is answered with its number, and its age counts the tick.
 pub record Goes (x : Entry) (t t′ : Task) : Type 0 where

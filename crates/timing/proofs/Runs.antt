@@ -4,13 +4,8 @@ use mathlib.Core.Path.{_≡_, refl, sym, ap, _∙_, subst}
 use mathlib.Core.Bool.{Bool, true, false, cond}
 use mathlib.Core.List.{List, [], _∷_, _++_}
 use native.Mathlib.Omega.{arith}
-use Rattle.timing.specs.Calls.{Call, Answer, Entry, entry, log, run}
+use Rattle.timing.specs.Calls.{Call, Answer, Entry, entry, calls, log, run}
 use Rattle.timing.specs.OnTime.{count}
-
--- the calls of a log
-unfoldable pub calls : List Entry → List Call
-calls [] = []
-calls (entry c a ∷ l) = c ∷ calls l
 
 -- what each call keeps, a list of calls keeps
 pub run-kept : {S : Type 0} (step : Call → S → S) (P : S → Type 0) → ((c : Call) (s : S) → P s → P (step c s)) → (cs : List Call) (s : S) → P s → P (run step s cs)

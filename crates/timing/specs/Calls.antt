@@ -57,6 +57,11 @@ next tick s = map older (modify pending used s)
 pub data Entry : Type 0 where
   entry : Call → Answer → Entry
 
+-- the calls of a log
+unfoldable pub calls : List Entry → List Call
+calls [] = []
+calls (entry c a ∷ l) = c ∷ calls l
+
 -- the log of a list of calls on any machine: each call gets the state that the call before it handed back
 unfoldable pub log : {S : Type 0} → (Call → S → Answer) → (Call → S → S) → S → List Call → List Entry
 log ask step s [] = []

@@ -1,10 +1,10 @@
 -- Document 01, "The dispatcher": the state's own form, whose breach is 21 Foreign, and the fresh state.
-use Prim.Native.Nat.{ℕ, _≤_, _<_}
+use Prim.Native.Nat.{_≤_}
 use mathlib.Core.Path.{_≡_}
-use mathlib.Core.Logic.{_⊎_}
 use mathlib.Core.List.{List}
 use lib.ListN.{length}
 use Rattle.fit.specs.Lists.{Each, EachPair}
+use Rattle.fit.specs.Priority.{Higher}
 use Rattle.timing.specs.declared.Task.{Task}
 
 -- a task's own fields: its number at most 63, p and e in range, age at most p, ticks left at most e
@@ -21,9 +21,9 @@ pub record Sound (t : Task) : Type 0 where
 unfoldable pub Distinct : Task → Task → Type 0
 Distinct t u = t .number ≡ u .number → ⊥
 
--- priority: shorter period first, lower number among equals
+-- the priority of one task over another
 unfoldable pub Above : Task → Task → Type 0
-Above t u = (t .period < u .period) ⊎ ((t .period ≡ u .period) × (t .number < u .number))
+Above t u = Higher (t .period) (t .number) (u .period) (u .number)
 
 -- the form of a state: at most 64 tasks, each sound, no number twice, in priority order
 pub record Form (s : List Task) : Type 0 where

@@ -1,7 +1,7 @@
 use borrow.Author.Needs.{needs}
 use Prim.Native.Nat.{_≤_, _-_}
 use Rattle.sheet.specs.Records.{figuresOf}
-use Rattle.checker.specs.Answers.{broken}
+use Rattle.checker.specs.Steps.{broken}
 use Rattle.fit.proofs.Finds.{Left, find-start, find-hit, find-turn, find-end}
 use Rattle.checker.proofs.first.Statement.{statement}
 use Rattle.checker.proofs.first.Tie as tie

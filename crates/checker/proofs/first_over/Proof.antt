@@ -1,6 +1,5 @@
-use borrow.Author.Needs.{needs}
 use borrow.Author.Tests.{ne-eqb}
-use Rattle.checker.specs.Answers.{firstOver}
+use Rattle.checker.specs.Steps.{firstOver}
 use Rattle.checker.proofs.first_over.Statement.{statement}
 use Rattle.checker.proofs.first_over.Tie as tie
 use Rattle.checker.proofs.first_over.Reads as reads

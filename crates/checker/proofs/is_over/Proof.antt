@@ -1,10 +1,10 @@
 use borrow.Author.Needs.{needs}
-use Rattle.checker.specs.Answers.{overInRange}
+use Rattle.checker.specs.Steps.{overInRange}
 use Rattle.checker.proofs.is_over.Statement.{statement}
 use Rattle.checker.proofs.is_over.Tie as tie
 use Rattle.checker.proofs.is_over.Reads as reads
 use Rattle.checker.proofs.is_over.Lts as lts
-use Rattle.checker.proofs.product.Reads as product-reads
+use Rattle.fit.proofs.product.Reads as product-reads
 use Rattle.fit.proofs.load_of.Reads as load-of-reads
 use Rattle.sheet.proofs.divisor.Reads as divisor-reads
 use Rattle.sheet.proofs.pivot.Reads as pivot-reads

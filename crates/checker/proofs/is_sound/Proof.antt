@@ -1,5 +1,5 @@
 use borrow.Author.Needs.{needs}
-use Rattle.checker.specs.Answers.{soundAt}
+use Rattle.checker.specs.Steps.{soundAt}
 use Rattle.checker.proofs.is_sound.Statement.{statement}
 use Rattle.checker.proofs.is_sound.Tie as tie
 use Rattle.checker.proofs.is_sound.Reads as reads

@@ -5,7 +5,7 @@ use Rattle.checker.proofs.is_stretched.Statement.{statement}
 use Rattle.checker.proofs.is_stretched.Tie as tie
 use Rattle.checker.proofs.is_stretched.Reads as reads
 use Rattle.checker.proofs.is_stretched.Lts as lts
-use Rattle.checker.proofs.product.Reads as product-reads
+use Rattle.fit.proofs.product.Reads as product-reads
 use Rattle.sheet.proofs.core.Reads as core-reads
 use Rattle.sheet.proofs.divisor.Reads as divisor-reads
 use Rattle.sheet.proofs.factor.Reads as factor-reads

@@ -1,5 +1,6 @@
 use borrow.Author.Needs.{needs}
-use Rattle.checker.proofs.Judging.{ordered-length, judge-broken, judge-whole}
+use Rattle.fit.proofs.Sorting.{ordered-length}
+use Rattle.checker.proofs.Judging.{judge-broken, judge-whole}
 use Rattle.checker.proofs.judge.Statement.{statement}
 use Rattle.checker.proofs.judge.Tie as tie
 use Rattle.checker.proofs.judge.Reads as reads

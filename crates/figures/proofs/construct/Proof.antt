@@ -1,5 +1,5 @@
 use borrow.Author.Needs.{needs}
-use Rattle.figures.specs.Answers.{construction}
+use Rattle.figures.specs.Steps.{construction}
 use Rattle.figures.proofs.construct.Statement.{statement}
 use Rattle.figures.proofs.construct.Tie as tie
 use Rattle.figures.proofs.construct.Reads as reads

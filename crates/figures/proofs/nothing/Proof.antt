@@ -1,5 +1,6 @@
 use mathlib.Core.Path.{refl}
-use Rattle.figures.specs.Answers.{padded, written, outcome}
+use Rattle.fit.specs.Lists.{padded}
+use Rattle.figures.specs.Answers.{written, outcome}
 use Rattle.figures.proofs.nothing.Statement.{statement}
 use Rattle.figures.proofs.nothing.Tie as tie
 use Rattle.figures.proofs.nothing.Reads as reads

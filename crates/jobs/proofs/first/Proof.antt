@@ -1,6 +1,6 @@
 use borrow.Author.Needs.{needs}
 use Prim.Native.Nat.{_≤_, _-_}
-use Rattle.jobs.specs.Answers.{broken}
+use Rattle.jobs.specs.Steps.{broken}
 use Rattle.fit.proofs.Finds.{Left, find-start, find-hit, find-turn, find-end}
 use Rattle.jobs.proofs.first.Statement.{statement}
 use Rattle.jobs.proofs.first.Tie as tie

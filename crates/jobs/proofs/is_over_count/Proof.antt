@@ -1,4 +1,3 @@
-use borrow.Author.Needs.{needs}
 use Rattle.jobs.specs.Jobs.{jobCount}
 use Rattle.jobs.proofs.is_over_count.Statement.{statement}
 use Rattle.jobs.proofs.is_over_count.Tie as tie

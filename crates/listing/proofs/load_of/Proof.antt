@@ -1,5 +1,5 @@
 use borrow.Author.Needs.{needs}
-use Rattle.checker.proofs.Judging.{ordered-length}
+use Rattle.fit.proofs.Sorting.{ordered-length}
 use Rattle.listing.proofs.Figures.{no-break, load-positive, load-full, load-range, load-found}
 use Rattle.listing.proofs.load_of.Statement.{statement}
 use Rattle.listing.proofs.load_of.Tie as tie
@@ -9,7 +9,7 @@ use Rattle.fit.proofs.chain_of.Reads as chain-of-reads
 use Rattle.fit.proofs.in_order.Reads as in-order-reads
 use Rattle.fit.proofs.load_of.Reads as load-of-reads
 use Rattle.listing.proofs.in_thousandths.Reads as in-thousandths-reads
-use Rattle.listing.proofs.product.Reads as product-reads
+use Rattle.fit.proofs.product.Reads as product-reads
 use Rattle.sheet.proofs.divisor.Reads as divisor-reads
 use Rattle.sheet.proofs.pivot.Reads as pivot-reads
 

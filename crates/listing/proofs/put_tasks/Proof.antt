@@ -5,7 +5,7 @@ use lib.ListN.{length}
 use Rattle.sheet.specs.Records.{figuresOf}
 use Rattle.fit.specs.Lists.{numbers}
 use Rattle.listing.specs.Listing.{taskLine, lines}
-use Rattle.listing.specs.Answers.{Capped}
+use Rattle.listing.specs.Steps.{Capped}
 use Rattle.listing.proofs.Lines.{lines-start, lines-turn, lines-end}
 use Rattle.listing.proofs.put_tasks.Statement.{statement}
 use Rattle.listing.proofs.put_tasks.Tie as tie

@@ -2,7 +2,7 @@ use borrow.Author.Needs.{needs}
 use Prim.Native.Nat.{_≤_, _-_}
 use mathlib.Core.Path.{_≡_}
 use lib.ListN.{length, take}
-use Rattle.listing.specs.Answers.{Put}
+use Rattle.listing.specs.Steps.{Put}
 use Rattle.listing.proofs.Writing.{word-start, word-turn, word-room, word-end}
 use Rattle.listing.proofs.put_word.Statement.{statement}
 use Rattle.listing.proofs.put_word.Tie as tie

@@ -4,7 +4,7 @@ use Rattle.listing.proofs.within_of.Statement.{statement}
 use Rattle.listing.proofs.within_of.Tie as tie
 use Rattle.listing.proofs.within_of.Reads as reads
 use Rattle.listing.proofs.within_of.Lts as lts
-use Rattle.listing.proofs.product.Reads as product-reads
+use Rattle.fit.proofs.product.Reads as product-reads
 
 -- src/lib.rt:106:6
 product-requires : tie.Need-product-requires

@@ -1,5 +1,5 @@
 use borrow.Author.Needs.{needs}
-use Rattle.checker.proofs.Judging.{ordered-length}
+use Rattle.fit.proofs.Sorting.{ordered-length}
 use Rattle.planner.proofs.Fitting.{prioritized-few, ordered-few, ordered-room, ordered-front, figures-found}
 use Rattle.planner.proofs.figures_on.Statement.{statement}
 use Rattle.planner.proofs.figures_on.Tie as tie

@@ -1,5 +1,6 @@
 use borrow.Author.Needs.{needs}
-use Rattle.planner.proofs.Fitting.{none-open, front-count, ring-stop, ring-few, ring-round}
+use Rattle.fit.proofs.Lists.{front-count}
+use Rattle.planner.proofs.Fitting.{none-open, ring-stop, ring-few, ring-round}
 use Rattle.planner.proofs.first_fit.Statement.{statement}
 use Rattle.planner.proofs.first_fit.Tie as tie
 use Rattle.planner.proofs.first_fit.Reads as reads

@@ -1,5 +1,5 @@
 use borrow.Author.Needs.{needs}
-use Rattle.checker.proofs.Judging.{ordered-length}
+use Rattle.fit.proofs.Sorting.{ordered-length}
 use Rattle.planner.proofs.Planning.{sorted-long, fit-found, count-small}
 use Rattle.planner.proofs.fit_list.Statement.{statement}
 use Rattle.planner.proofs.fit_list.Tie as tie

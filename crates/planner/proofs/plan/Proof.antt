@@ -1,5 +1,5 @@
 use borrow.Author.Needs.{needs}
-use Rattle.checker.proofs.Judging.{ordered-length}
+use Rattle.fit.proofs.Sorting.{ordered-length}
 use Rattle.planner.proofs.Planning.{refused-outcome, refused-output, count-is, count-few, count-fits, limit-few, limit-fits, room-enough, prioritized, start-inside, unfit-outcome, unfit-output, assigned-all, fit-outcome, fit-output, fit-accepted}
 use Rattle.planner.proofs.plan.Statement.{statement}
 use Rattle.planner.proofs.plan.Tie as tie

@@ -1,6 +1,6 @@
 use borrow.Author.Needs.{needs}
 use Prim.Native.Nat.{_≤_, _-_}
-use Rattle.planner.specs.Answers.{coreBytes}
+use Rattle.planner.specs.Steps.{coreBytes}
 use Rattle.planner.proofs.Writing.{Laid, lay-start, lay-end, core-turn}
 use Rattle.planner.proofs.put_cores.Statement.{statement}
 use Rattle.planner.proofs.put_cores.Tie as tie

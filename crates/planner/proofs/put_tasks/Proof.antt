@@ -1,6 +1,6 @@
 use borrow.Author.Needs.{needs}
 use Prim.Native.Nat.{_≤_, _-_}
-use Rattle.planner.specs.Answers.{taskBytes}
+use Rattle.planner.specs.Steps.{taskBytes}
 use Rattle.planner.proofs.Writing.{Laid, lay-start, lay-end, task-turn}
 use Rattle.planner.proofs.put_tasks.Statement.{statement}
 use Rattle.planner.proofs.put_tasks.Tie as tie

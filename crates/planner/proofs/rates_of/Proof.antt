@@ -1,6 +1,6 @@
 use borrow.Author.Needs.{needs}
 use Prim.Native.Nat.{_≤_, _-_}
-use Rattle.checker.proofs.Judging.{ordered-length}
+use Rattle.fit.proofs.Sorting.{ordered-length}
 use Rattle.planner.proofs.Fitting.{prioritized-few, ordered-few, ordered-room}
 use Rattle.planner.proofs.Rating.{Rating, rate-start, rate-turn, rate-end}
 use Rattle.planner.proofs.rates_of.Statement.{statement}

@@ -2,7 +2,7 @@ use borrow.Author.Needs.{needs}
 use Prim.Native.Nat.{_≤_, _-_}
 use mathlib.Core.Path.{_≡_}
 use lib.ListN.{length, drop}
-use Rattle.planner.specs.Answers.{spread}
+use Rattle.planner.specs.Steps.{spread}
 use Rattle.planner.proofs.Gathering.{spread-turn, spread-end}
 use Rattle.planner.proofs.spread.Statement.{statement}
 use Rattle.planner.proofs.spread.Tie as tie

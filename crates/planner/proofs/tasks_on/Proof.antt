@@ -1,7 +1,7 @@
 use borrow.Author.Needs.{needs}
 use Prim.Native.Nat.{_≤_, _-_}
 use lib.ListN.{length}
-use Rattle.planner.specs.Answers.{on}
+use Rattle.planner.specs.Steps.{on}
 use Rattle.planner.proofs.Gathering.{Picked, pick-start, pick-turn, pick-end}
 use Rattle.planner.proofs.tasks_on.Statement.{statement}
 use Rattle.planner.proofs.tasks_on.Tie as tie

@@ -1,4 +1,3 @@
-use borrow.Author.Needs.{needs}
 use mathlib.Core.Path.{refl}
 use Rattle.sheet.specs.Ranges.{outOf}
 use Rattle.sheet.proofs.out_of.Statement.{statement}

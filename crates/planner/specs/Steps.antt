@@ -1,4 +1,4 @@
--- What the code's own steps ask, and what they give.
+-- What the code's own steps ask and give; no public contract speaks of it.
 use Prim.Native.Nat.{ℕ, suc, _≤_, _<_}
 use mathlib.Core.Path.{_≡_}
 use mathlib.Core.Bool.{Bool}
@@ -7,10 +7,10 @@ use lib.ListN.{length, take, set}
 use lib.Dec.{eqb}
 use Rattle.sheet.specs.declared.Found.{Found}
 use Rattle.sheet.specs.declared.Found.the-variants.{At, Nothing}
+use Rattle.fit.specs.Lists.{at}
 use Rattle.fit.specs.declared.By.the-variants.{Period}
 use Rattle.fit.specs.Ring.{orderBy}
 use Rattle.jobs.specs.Jobs.{jobCount, jobPeriod, jobBudget}
-use Rattle.figures.specs.Constructions.{at}
 use Rattle.planner.specs.declared.Assignment.{Assignment}
 use Rattle.planner.specs.declared.Fitted.{Fitted}
 use Rattle.planner.specs.declared.Rates.{Rates}

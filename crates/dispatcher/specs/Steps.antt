@@ -1,4 +1,4 @@
--- What the code's own steps give.
+-- What the code's own steps ask and give; no public contract speaks of it.
 use Prim.Native.Nat.{ℕ, suc, _+_, _*_}
 use mathlib.Core.Bool.{Bool, cond}
 use mathlib.Core.List.{List, [], _∷_}

@@ -1,4 +1,4 @@
--- What the code's own steps answer.
+-- What the code's own steps ask and give; no public contract speaks of it.
 use Prim.Native.Nat.{ℕ}
 use mathlib.Core.Bool.{Bool}
 use mathlib.Core.List.{List}
