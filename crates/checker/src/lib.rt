@@ -321,7 +321,7 @@ fn fit_rules(tasks: &[u8], cores: &[u8], n: u8, c: u8) -> Finding
     requires { ⌜ ((k : ℕ) → k < c → InRange (figuresOf n c (now tasks) (now cores)) k) ⌝ }
     ensures { λ r. ⌜ findingOf r ≡ scan (fitRows (figuresOf n c (now (tasks .entry)) (now (cores .entry)))) ⌝ }
 {
-    let periods = fit::periods_of(tasks, n);
+    let periods = fit::periods_of(tasks, 10, n);
     let mut found = 255;
     let mut k = 0;
     while k < c {

@@ -2,11 +2,12 @@
 ghost use mathlib.Core.Path.{_≡_};
 ghost use Prim.Native.Nat.{_+_, _*_, _≤_};
 ghost use mathlib.Core.List.{[], map};
+ghost use lib.ListN.{length, take};
+ghost use Rattle.sheet.specs.Numbers.{word};
 ghost use Rattle.sheet.specs.Records.{periodAt, budgetAt, coreAt};
 ghost use Rattle.fit.specs.Priority.{order};
 ghost use Rattle.fit.specs.declared.By.the-variants.{Period};
 ghost use Rattle.fit.specs.Ring.{orderBy};
-ghost use Rattle.fit.specs.Answers.{Column};
 ghost use Rattle.jobs.specs.Jobs.{jobPeriod, jobBudget};
 ghost use Rattle.timing.specs.Tasks.{pending, named, withJob, older};
 ghost use Rattle.timing.specs.Calls.{release, finish, tick};
@@ -17,6 +18,7 @@ ghost use Rattle.dispatcher.specs.OnTime.{Timely};
 ghost use Rattle.dispatcher.specs.Steps.{rank, placeOf, refusal};
 use checker::Verdict;
 use fit::By;
+use fit::Order;
 use sheet::Finding;
 use sheet::Refusal;
 use timing::Task;
@@ -196,22 +198,48 @@ fn empty() -> Core
     }
 }
 
+// Record j of records of this size, which begin with period and budget, as a fresh task.
+fn fresh_at(records: &[u8], size: u8, j: u8) -> Task
+    ensures { λ r. ⌜ r ≡ freshTask (word (now (records .entry)) (size * j)) (word (now (records .entry)) (size * j + 2)) j ⌝ }
+{
+    let at = sheet::offset(size, j);
+    fresh(
+        sheet::read_word(records, at),
+        sheet::read_word(records, at + 2),
+        j,
+    )
+}
+
+// The fresh state of the tasks of an order, from records of this size.
+fn fresh_state(records: &[u8], size: u8, order: Order) -> Core
+    requires { ⌜ (order .count ≤ 64) × (length (order .tasks) ≡ 64) ⌝ }
+    ensures { λ r. ⌜ r ≡ stateOf (freshTasks (λ i. word (now (records .entry)) (size * i)) (λ i. word (now (records .entry)) (size * i + 2)) (take (order .count) (order .tasks))) ⌝ }
+{
+    let count = order.count;
+    let mut core = empty();
+    let mut i = 0;
+    while i < count {
+        core.tasks[i] = fresh_at(records, size, order.tasks[i]);
+        i += 1;
+    }
+    core.count = count;
+    core
+}
+
 // The fresh state of core k of a sheet of n tasks. `tasks` is the sheet's part from byte 8.
 fn of_core(tasks: &[u8], n: u8, k: u8) -> Core
     requires { ⌜ n ≤ 64 ⌝ }
     ensures { λ r. ⌜ r ≡ stateOf (freshTasks (periodAt (now (tasks .entry))) (budgetAt (now (tasks .entry))) (order (periodAt (now (tasks .entry))) (coreAt (now (tasks .entry))) k n)) ⌝ }
 {
-    let order = fit::in_order(tasks, n, k);
-    let count = order.count;
-    let mut core = empty();
-    let mut i = 0;
-    while i < count {
-        let j = order.tasks[i];
-        core.tasks[i] = fresh(sheet::period(tasks, j), sheet::budget(tasks, j), j);
-        i += 1;
-    }
-    core.count = count;
-    core
+    fresh_state(tasks, 10, fit::in_order(tasks, n, k))
+}
+
+// The fresh state of a job list of n entries.
+fn of_list(list: &[u8], n: u8) -> Core
+    requires { ⌜ n ≤ 64 ⌝ }
+    ensures { λ r. ⌜ r ≡ stateOf (freshTasks (jobPeriod (now (list .entry))) (jobBudget (now (list .entry))) (orderBy Period (jobPeriod (now (list .entry))) n)) ⌝ }
+{
+    fresh_state(list, 4, jobs::in_order(By::Period, list, n))
 }
 
 fn refuse(core: Core, word: Refusal, place: u16) -> Step
@@ -221,39 +249,6 @@ fn refuse(core: Core, word: Refusal, place: u16) -> Step
         answer: Answer::Refused { word, place },
         core,
     }
-}
-
-// The periods of the n entries of a job list.
-fn periods_of(list: &[u8], n: u8) -> [u16; 64]
-    requires { ⌜ n ≤ 64 ⌝ }
-    ensures { λ r. ⌜ Column (jobPeriod (now (list .entry))) n r ⌝ }
-{
-    let mut periods = [0u16; 64];
-    let mut i = 0;
-    while i < n {
-        periods[i as usize] = jobs::period(list, i);
-        i += 1;
-    }
-    periods
-}
-
-// The fresh state of a job list of n entries.
-fn of_list(list: &[u8], n: u8) -> Core
-    requires { ⌜ n ≤ 64 ⌝ }
-    ensures { λ r. ⌜ r ≡ stateOf (freshTasks (jobPeriod (now (list .entry))) (jobBudget (now (list .entry))) (orderBy Period (jobPeriod (now (list .entry))) n)) ⌝ }
-{
-    let periods = periods_of(list, n);
-    let order = fit::sorted(By::Period, &periods, n);
-    let count = order.count;
-    let mut core = empty();
-    let mut i = 0;
-    while i < count {
-        let j = order.tasks[i];
-        core.tasks[i] = fresh(jobs::period(list, j), jobs::budget(list, j), j);
-        i += 1;
-    }
-    core.count = count;
-    core
 }
 
 // Starts a core from a sheet and a core number: 1 to 14, then 9 where there is no such core, else its fresh state.

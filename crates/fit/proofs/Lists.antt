@@ -7,7 +7,7 @@ use mathlib.Core.List.{List, [], _∷_, _++_}
 use native.Mathlib.Nat.{zero-add, add-zero}
 use native.Mathlib.Omega.{arith}
 use borrow.Author.Tests.{eqb-true}
-use lib.ListN.{length, take, drop, getD, length-take, length-drop}
+use lib.ListN.{length, take, drop, getD, replicate, length-take, length-drop}
 use lib.Seq.{take-all}
 use lib.Dec.{eqb}
 use Rattle.fit.specs.Lists.{numbers, sum, select, occurs, Each, EachPair}
@@ -18,6 +18,12 @@ part s a = take-all (length s - a) (drop a s) (simp length-drop (omega arith))
 
 pub front-count : (l : List ℕ) (a : ℕ) → a ≤ length l → a ≡ length (take a l)
 front-count l a h = simp length-take (omega arith)
+
+-- an array of zeros has 0 everywhere
+pub zeros : (n i : ℕ) → _≡_ {A = ℕ} (getD (replicate n 0) i 0) 0
+zeros zero i = refl
+zeros (suc n) zero = refl
+zeros (suc n) (suc i) = zeros n i
 
 -- what follows for one from one property, or from two, follows for each of a list
 pub each-of : {A : Type 0} {P Q : A → Type 0} (l : List A) → ((x : A) → P x → Q x) → Each P l → Each Q l

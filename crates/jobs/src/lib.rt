@@ -1,16 +1,28 @@
 // The job list: 4-byte entries with a period and a budget, and its refusals.
 ghost use mathlib.Core.Path.{_≡_};
 ghost use mathlib.Core.Bool.{not, _||_};
-ghost use Prim.Native.Nat.{_%_};
+ghost use Prim.Native.Nat.{_%_, min};
 ghost use lib.ListN.{length};
 ghost use lib.Dec.{ltb, eqb};
 ghost use Rattle.sheet.specs.Table.{scan, foundOf, findingOf};
 ghost use Rattle.fit.specs.Lists.{numbers, find};
+ghost use Rattle.fit.specs.Ring.{orderBy};
+ghost use Rattle.fit.specs.Answers.{Ordered};
 ghost use Rattle.jobs.specs.Jobs.{jobCount, jobPeriod, jobBudget, listRows};
 ghost use Rattle.jobs.specs.Steps.{broken};
+use fit::By;
+use fit::Order;
 use sheet::Finding;
 use sheet::Found;
 use sheet::Refusal;
+
+// The tasks of a job list of n entries in priority order or in ring order; of more than 64 the first 64.
+pub fn in_order(by: By, jobs: &[u8], n: u8) -> Order
+    ensures { λ r. ⌜ Ordered (orderBy by (jobPeriod (now (jobs .entry))) (min n 64)) r ⌝ }
+{
+    let periods = fit::periods_of(jobs, 4, n);
+    fit::sorted(by, &periods, n)
+}
 
 // The fields of an entry that are tested.
 enum Field {

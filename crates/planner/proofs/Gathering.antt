@@ -7,19 +7,16 @@ use mathlib.Core.List.{List, [], _∷_, _++_, map, append-assoc, append-nil}
 use native.Mathlib.Numerals.{add-one}
 use native.Mathlib.Omega.{arith}
 use borrow.Author.Tests.{not-true, not-false, ne-eqb}
-use lib.ListN.{length, take, drop, getD, set, length-set, drop-of-length-le}
-use lib.Seq.{take-suc, take-suc-set, take-all, drop-cons, set-out}
+use lib.ListN.{length, take, drop, getD, set, replicate, length-set, drop-of-length-le}
+use lib.Seq.{take-suc, take-suc-set, take-all, drop-cons, set-out, getD-set-other}
 use lib.Dec.{leb, eqb}
 use Rattle.fit.specs.Lists.{select, at}
 use Rattle.sheet.proofs.Past.{past}
-use Rattle.fit.specs.Answers.{Column, Ordered}
+use Rattle.fit.proofs.Lists.{zeros}
+use Rattle.fit.specs.Answers.{Ordered}
 use Rattle.jobs.specs.Jobs.{jobPeriod, jobBudget}
 use Rattle.planner.specs.Plan.{badStart}
-use Rattle.planner.specs.Steps.{on, Gathered, spread}
-
--- a column up to n
-pub column-end : (f : ℕ → ℕ) (i n : ℕ) (list : List ℕ) → i ≤ n → n ≤ i → Column f i list → Column f n list
-column-end f i n list a b s = record { size = s .size; below = λ j h. s .below j (omega arith) }
+use Rattle.planner.specs.Steps.{Pushed, on, Gathered, spread}
 
 -- past the end of an array there is 0, and a store changes nothing
 pub read-past : (l : List ℕ) (i : ℕ) → length l ≡ 64 → 64 ≤ i → 0 ≡ getD l i 0
@@ -38,25 +35,36 @@ unfolding badStart
 start-within n start e = rw (ne-eqb n 0 e)
 
 -- one more behind the first `count` of a list, if it belongs there
-pub push-off : (count i : ℕ) (belongs : Bool) (l : List ℕ) → not belongs ≡ true → take count l ≡ cond belongs (take count l ++ i ∷ []) (take count l)
-push-off count i belongs l h = rw (not-true belongs h)
+pub push-off : (count i : ℕ) (belongs : Bool) (l : List ℕ) → not belongs ≡ true → Pushed l count i belongs l count
+push-off count i belongs l h = record { more = omega arith; front = rw (not-true belongs h); rest = λ j q. refl }
 
-pub push-on : (count i : ℕ) (belongs : Bool) (l : List ℕ) → count < length l → not belongs ≡ false → take (count + 1) (set l count i) ≡ cond belongs (take count l ++ i ∷ []) (take count l)
-push-on count i belongs l q h = rw (not-false belongs h, add-one count) (take-suc-set l count i q)
+pub push-on : (count i : ℕ) (belongs : Bool) (l : List ℕ) → count < length l → not belongs ≡ false → Pushed l count i belongs (set l count i) (count + 1)
+push-on count i belongs l q h =
+    record {
+      more = omega arith;
+      front = rw (not-false belongs h, add-one count) (take-suc-set l count i q);
+      rest = λ j r. getD-set-other l count j i 0 (omega arith);
+    }
 
 -- after j tasks of the order: the first `count` of the list are those that pass the test
 pub record Picked (q : ℕ → Bool) (order : List ℕ) (count j : ℕ) (list : List ℕ) : Type 0 where
   pub size : length list ≡ 64
   pub small : count ≤ j
-  pub rest : select q order ≡ take count list ++ select q (drop j order)
+  pub left : select q order ≡ take count list ++ select q (drop j order)
+  pub rest : (i : ℕ) → count ≤ i → getD list i 0 ≡ 0
 
-pub pick-start : (q : ℕ → Bool) (order list : List ℕ) → length list ≡ 64 → Picked q order 0 0 list
-pick-start q order list h = record { size = h; small = omega arith; rest = refl }
+pub pick-start : (q : ℕ → Bool) (order : List ℕ) → Picked q order 0 0 (replicate 64 0)
+pick-start q order = record { size = refl; small = omega arith; left = refl; rest = λ i h. zeros 64 i }
 
-pub pick-turn : (core : List ℕ) (k : ℕ) (order : List ℕ) (count j x r : ℕ) (list new : List ℕ) → j < length order → Picked (on core k) order count j list → x ≡ at core (getD order j 0) → length new ≡ length list → r ≤ count + 1 → take r new ≡ cond (eqb x k) (take count list ++ getD order j 0 ∷ []) (take count list) → Picked (on core k) order r (j + 1) new
+pub pick-turn : (core : List ℕ) (k : ℕ) (order : List ℕ) (count j x r : ℕ) (list new : List ℕ) → j < length order → Picked (on core k) order count j list → x ≡ at core (getD order j 0) → length new ≡ length list → Pushed list count (getD order j 0) (eqb x k) new r → Picked (on core k) order r (j + 1) new
 unfolding select on
-pick-turn core k order count j x r list new h p e len small t =
-    record { size = len ∙ p .size; small = omega (arith, p .small); rest = p .rest ∙ rw (t, add-one j, drop-cons order j 0 h, e) (by (eqb (at core (getD order j 0)) k)) }
+pick-turn core k order count j x r list new h p e len t =
+    record {
+      size = len ∙ p .size;
+      small = omega (arith, p .small, t .more .1);
+      left = p .left ∙ rw (t .front, add-one j, drop-cons order j 0 h, e) (by (eqb (at core (getD order j 0)) k));
+      rest = λ m q. t .rest m q ∙ p .rest m (omega (arith, t .more .0));
+    }
   where
     i : ℕ
     i = getD order j 0
@@ -71,7 +79,12 @@ pick-turn core k order count j x r list new h p e len small t =
 pub pick-end : (q : ℕ → Bool) (order : List ℕ) (count j : ℕ) (list : List ℕ) → j ≤ length order → length order ≤ j → length order ≤ 64 → Picked q order count j list → Ordered (select q order) (record { count = count; tasks = list })
 unfolding select
 pick-end q order count j list a b few p =
-    record { count = omega (arith, p .small); size = p .size; tasks = sym (p .rest ∙ rw (drop-of-length-le order b) (append-nil (take count list))) }
+    record {
+      count = omega (arith, p .small);
+      size = p .size;
+      tasks = sym (p .left ∙ rw (drop-of-length-le order b) (append-nil (take count list)));
+      rest = p .rest;
+    }
 
 -- after j of the listed tasks: their figures stand in the first j places
 pub record Filled (f : ℕ → ℕ) (tasks : List ℕ) (j : ℕ) (list : List ℕ) : Type 0 where

@@ -23,9 +23,9 @@ use Rattle.fit.specs.declared.Order.{Order}
 use Rattle.fit.specs.Lists.{numbers, select, at}
 use Rattle.fit.specs.Priority.{tasksOn}
 use Rattle.fit.proofs.Lists.{numbers-length}
-use Rattle.fit.specs.Ring.{ringKey, keyOf, orderBy}
-use Rattle.fit.specs.Answers.{Column, Ordered}
-use Rattle.fit.proofs.Priority.{order-ext, order-length}
+use Rattle.fit.specs.Ring.{keyOf, orderBy}
+use Rattle.fit.specs.Answers.{Ordered}
+use Rattle.fit.proofs.Priority.{order-length}
 use Rattle.jobs.specs.Jobs.{jobCount, jobPeriod, jobBudget, listRows}
 use Rattle.jobs.proofs.Laws.{Listed, listed}
 use Rattle.checker.specs.Verdict.{verdict, accepted}
@@ -37,16 +37,11 @@ use Rattle.planner.specs.Steps.{Prioritized, Assigned, fitBy, fitted}
 use Rattle.planner.proofs.Settling.{fit-settled}
 use Rattle.planner.proofs.Accepting.{sheet-accepted}
 
--- all tasks, sorted by periods that were read from the list
-same-key : (by : By) (l ps : List ℕ) (n : ℕ) → Column (jobPeriod l) n ps → (i : ℕ) → i < n → keyOf by (at ps) i ≡ keyOf by (jobPeriod l) i
-same-key Period l ps n c i h = c .below i h
-same-key Ring l ps n c i h = ap ringKey (c .below i h)
-
-pub sorted-by : (by : By) (l ps : List ℕ) (n : ℕ) (o : Order) → n ≡ jobCount l → n ≤ 64 → Column (jobPeriod l) n ps → Ordered (orderBy by (at ps) (min n 64)) o → Ordered (orderBy by (jobPeriod l) (jobCount l)) o
-unfolding orderBy
-sorted-by by l ps n o e few c h =
+-- all tasks, in order
+pub all-listed : (by : By) (l : List ℕ) (n : ℕ) (o : Order) → n ≡ jobCount l → n ≤ 64 → Ordered (orderBy by (jobPeriod l) (min n 64)) o → Ordered (orderBy by (jobPeriod l) (jobCount l)) o
+all-listed by l n o e few h =
     let all : min n 64 ≡ jobCount l = omega arith in
-    record { count = h .count; size = h .size; tasks = h .tasks ∙ ap (orderBy by (at ps)) all ∙ order-ext (keyOf by (at ps)) (keyOf by (jobPeriod l)) (λ i. 0) 0 (jobCount l) (λ i b. same-key by l ps n c i (omega arith)) }
+    rw all at h
 
 all-sorted : (by : By) (p : ℕ → ℕ) (n : ℕ) → length (orderBy by p n) ≡ n
 unfolding orderBy tasksOn select

@@ -1,9 +1,9 @@
 -- What the code's own steps ask and give; no public contract speaks of it.
-use Prim.Native.Nat.{ℕ, suc, _≤_, _<_}
+use Prim.Native.Nat.{ℕ, suc, _+_, _≤_, _<_}
 use mathlib.Core.Path.{_≡_}
-use mathlib.Core.Bool.{Bool}
-use mathlib.Core.List.{List, [], _∷_, map}
-use lib.ListN.{length, take, set}
+use mathlib.Core.Bool.{Bool, cond}
+use mathlib.Core.List.{List, [], _∷_, _++_, map}
+use lib.ListN.{length, take, set, getD}
 use lib.Dec.{eqb}
 use Rattle.sheet.specs.declared.Found.{Found}
 use Rattle.sheet.specs.declared.Found.the-variants.{At, Nothing}
@@ -27,6 +27,12 @@ pub record Prioritized (l order : List ℕ) : Type 0 where
 pub record Assigned (l : List ℕ) (a : Assignment) : Type 0 where
   pub few : a .cores ≤ 8
   pub core : (i : ℕ) → i < jobCount l → at (a .core) i < a .cores
+
+-- a list of which the first `count` count, with i behind them if it belongs there; r of the new list count, and the rest is as it was
+pub record Pushed (list : List ℕ) (count i : ℕ) (belongs : Bool) (new : List ℕ) (r : ℕ) : Type 0 where
+  pub more : (count ≤ r) × (r ≤ count + 1)
+  pub front : take r new ≡ cond belongs (take count list ++ i ∷ []) (take count list)
+  pub rest : (j : ℕ) → r ≤ j → getD new j 0 ≡ getD list j 0
 
 -- task i is on core k
 unfoldable pub on : List ℕ → ℕ → ℕ → Bool

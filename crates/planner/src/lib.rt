@@ -2,19 +2,17 @@
 // `order` has all tasks in priority order; `cores` is the core of each task by number.
 ghost use mathlib.Core.Path.{_≡_};
 ghost use Prim.Native.Nat.{_+_, _*_, _<_, _≤_};
-ghost use mathlib.Core.Bool.{cond};
-ghost use mathlib.Core.List.{[], _∷_, _++_};
-ghost use lib.ListN.{length, take, set};
+ghost use lib.ListN.{length, set};
 ghost use Rattle.sheet.specs.Table.{scan, foundOf, findingOf};
 ghost use Rattle.fit.specs.Lists.{numbers, find, select, at};
 ghost use Rattle.fit.specs.Ring.{orderBy};
-ghost use Rattle.fit.specs.Answers.{Column, Ordered};
+ghost use Rattle.fit.specs.Answers.{Ordered};
 ghost use Rattle.jobs.specs.Jobs.{jobCount, jobPeriod, jobBudget};
 ghost use Rattle.figures.specs.Answers.{outcome};
 ghost use Rattle.planner.specs.FirstFit.{rotate, unassigned as noneAssigned, coreFigures, takes, coreFor, assign, firstFit};
 ghost use Rattle.planner.specs.Sheet.{header, taskRecord, coreRecord, records, sheetOf};
 ghost use Rattle.planner.specs.Plan.{fitOf, badStart, callRows, planOutcome, planOutput, over, outcomeOf, Accepting};
-ghost use Rattle.planner.specs.Steps.{Prioritized, Assigned, on, Gathered, fitted, spread as spreadOver, Rated, taskBytes, coreBytes};
+ghost use Rattle.planner.specs.Steps.{Prioritized, Assigned, Pushed, on, Gathered, fitted, spread as spreadOver, Rated, taskBytes, coreBytes};
 use figures::Outcome;
 use fit::By;
 use fit::Order;
@@ -77,7 +75,7 @@ fn with_core(cores: [u8; 64], i: u8, k: u8) -> [u8; 64]
 // Puts i behind the first `count` of a list, if it belongs there. The number that there then are is returned.
 fn push(list: &mut [u8], count: usize, i: u8, belongs: bool) -> usize
     requires { ⌜ count < length (now list) ⌝ }
-    ensures { λ r. ⌜ (r ≤ count + 1) × (take r (now (list .exit)) ≡ cond belongs (take count (now (list .entry)) ++ i ∷ []) (take count (now (list .entry)))) ⌝ }
+    ensures { λ r. ⌜ Pushed (now (list .entry)) count i belongs (now (list .exit)) r ⌝ }
 {
     if !belongs {
         return count;
@@ -248,27 +246,12 @@ fn first_fit(jobs: &[u8], order: &[u8], ring: &[u8], limit: u8, start: usize) ->
     walk(jobs, order, &ring[..start], limit, so_far)
 }
 
-// The periods of the first n tasks of a list, then zeros.
-fn periods_of(jobs: &[u8], n: u8) -> [u16; 64]
-    requires { ⌜ n ≤ 64 ⌝ }
-    ensures { λ r. ⌜ Column (jobPeriod (now (jobs .entry))) n r ⌝ }
-{
-    let mut periods = [0u16; 64];
-    let mut i = 0;
-    while i < n {
-        periods[i as usize] = jobs::period(jobs, i);
-        i += 1;
-    }
-    periods
-}
-
 // All tasks in priority order or in ring order.
 fn tasks_by(by: By, jobs: &[u8], n: u8) -> Order
     requires { ⌜ (n ≡ jobCount (now jobs)) × (n ≤ 64) ⌝ }
     ensures { λ r. ⌜ Ordered (orderBy by (jobPeriod (now (jobs .entry))) (jobCount (now (jobs .entry)))) r ⌝ }
 {
-    let periods = periods_of(jobs, n);
-    fit::sorted(by, &periods, n)
+    jobs::in_order(by, jobs, n)
 }
 
 // First fit over the ring of a job list from a start.

@@ -1,7 +1,7 @@
 // The sheet's bytes: the words of its refusals, little-endian numbers, and the fields of task and core records.
 // Every reader is total: what stands past the end reads as 0.
 ghost use mathlib.Core.Path.{_≡_};
-ghost use Prim.Native.Nat.{_+_, _*_};
+ghost use Prim.Native.Nat.{_+_, _*_, _≤_};
 ghost use lib.ListN.{getD};
 ghost use Rattle.sheet.specs.Refusals.{numberOf};
 ghost use Rattle.sheet.specs.Ranges.{outOf};
@@ -129,6 +129,13 @@ pub fn read_long(part: &[u8], at: usize) -> u32
         return join16(read_word(part, at), read_word(part, at + 2));
     }
     0
+}
+
+// The place of record i among records of this size.
+pub fn offset(size: u8, i: u8) -> usize
+    ensures { λ r. ⌜ (r ≡ size * i) × (r ≤ 65025) ⌝ }
+{
+    (size as usize) * (i as usize)
 }
 
 // The fields of task i. The part is the sheet's from byte 8.

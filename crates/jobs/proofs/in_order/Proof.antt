@@ -1,0 +1,28 @@
+use borrow.Author.Needs.{needs}
+use Rattle.fit.proofs.Sorting.{sorted-column}
+use Rattle.jobs.proofs.in_order.Statement.{statement}
+use Rattle.jobs.proofs.in_order.Tie as tie
+use Rattle.jobs.proofs.in_order.Reads as reads
+use Rattle.jobs.proofs.in_order.Lts as lts
+use Rattle.fit.proofs.periods_of.Reads as periods-of-reads
+use Rattle.fit.proofs.sorted.Reads as sorted-reads
+
+-- src/lib.rt:23:19
+periods-of-requires : tie.Need-periods-of-requires
+periods-of-requires c κs = search needs
+
+-- src/lib.rt:24:21
+slice-aggregate-sorted : tie.Need-slice-aggregate-sorted
+slice-aggregate-sorted c = search needs
+
+-- src/lib.rt:24:5
+sorted-requires : tie.Need-sorted-requires
+sorted-requires c κs = search needs
+
+-- src/lib.rt:20:1
+returns : tie.Need-returns
+returns c = search (sorted-column, needs)
+
+pub in-order-spec : {M : Type 1} → statement M
+in-order-spec =
+    tie.close (tie.spec periods-of-requires slice-aggregate-sorted sorted-requires returns)
