@@ -14,6 +14,7 @@ use mir.Syntax.{w64}
 use Rattle.sheet.specs.declared.Refusal.the-variants.{Foreign, Unlisted, Early, Late, Quiet}
 use Rattle.sheet.specs.declared.Refusal.{Refusal}
 use Rattle.sheet.specs.Refusals.{numberOf}
+use Rattle.fit.specs.Lists.{placeOf}
 use Rattle.timing.specs.declared.Task.{Task}
 use Rattle.timing.specs.Calls.{Call, Answer, ofFirst, modify, answer, next, release, finish, tick, idle, refused, releaseAnswer, finishAnswer, tickAnswer}
 use Rattle.timing.specs.Serving.{noTask, nth}
@@ -23,7 +24,7 @@ use Rattle.dispatcher.specs.declared.Step.{Step}
 use Rattle.dispatcher.specs.declared.Answer.the-variants.{Accepted, Served, Idle}
 use Rattle.dispatcher.specs.State.{tasksOf, withTasks, foreign}
 use Rattle.dispatcher.specs.Operations.{ask, step, Operation, answerOf}
-use Rattle.dispatcher.specs.Steps.{placeOf, refusal}
+use Rattle.dispatcher.specs.Steps.{refusal}
 use Rattle.dispatcher.proofs.Foreign.{foreign-form}
 use Rattle.dispatcher.proofs.Aging.{state-is}
 
@@ -122,19 +123,20 @@ module _ (s : Core) (b : Bool) (e : b ≡ foreign s) (x : b ≡ false) where
       refusal-at : (c : Call) (f : Task → Answer) (d : Answer) (g : Task → Task) (w : Refusal) (r : Step) → answer c (tasksOf s) ≡ ofFirst q f d (tasksOf s) → next c (tasksOf s) ≡ modify q g (tasksOf s) → i < s .count → f (nth (s .tasks) i) ≡ refused (numberOf w) (nth (s .tasks) i .number) → g (nth (s .tasks) i) ≡ nth (s .tasks) i → r ≡ refusal s w (nth (s .tasks) i .number) → Operation c s r
       refusal-at c f d g w r p n h y z k = operation c f d g r p n h (ap (λ u. answerOf (u .answer)) k ∙ sym y) (ap (λ u. u .core) k ∙ state-is s (s .count) _ refl (sym (ap (set (s .tasks) i) z ∙ set-getD (s .tasks) i noTask)))
 
+      -- 17: no task passes
+      unlisted : (c : Call) (f : Task → Answer) (g : Task → Task) (r : Step) → answer c (tasksOf s) ≡ ofFirst q f (refused 17 0) (tasksOf s) → next c (tasksOf s) ≡ modify q g (tasksOf s) → s .count ≤ i → r ≡ refusal s Unlisted 0 → Operation c s r
+      unlisted c f g r p n h k =
+          let m = miss h in
+          record { answer = ap (λ u. answerOf (u .answer)) k ∙ sym (native-ask c ∙ p ∙ m .answers f (refused 17 0)); core = ap (λ u. u .core) k ∙ sym (native-step c ∙ ap (withTasks s) (n ∙ m .changes g) ∙ same-tasks s) }
+
     module _ (j i : ℕ) (at : i ≡ placeOf (named j) (tasksOf s)) where
-      -- 17
       pub release-unlisted : (r : Step) → s .count ≤ i → r ≡ refusal s Unlisted 0 → Operation (release j) s r
       unfolding answer next
-      release-unlisted r h k =
-          let m = miss (named j) i at h in
-          record { answer = ap (λ u. answerOf (u .answer)) k ∙ sym (native-ask (release j) ∙ m .answers releaseAnswer (refused 17 0)); core = ap (λ u. u .core) k ∙ sym (native-step (release j) ∙ ap (withTasks s) (m .changes released) ∙ same-tasks s) }
+      release-unlisted r h k = unlisted (named j) i at (release j) releaseAnswer released r refl refl h k
 
       pub finish-unlisted : (r : Step) → s .count ≤ i → r ≡ refusal s Unlisted 0 → Operation (finish j) s r
       unfolding answer next
-      finish-unlisted r h k =
-          let m = miss (named j) i at h in
-          record { answer = ap (λ u. answerOf (u .answer)) k ∙ sym (native-ask (finish j) ∙ m .answers finishAnswer (refused 17 0)); core = ap (λ u. u .core) k ∙ sym (native-step (finish j) ∙ ap (withTasks s) (m .changes finished) ∙ same-tasks s) }
+      finish-unlisted r h k = unlisted (named j) i at (finish j) finishAnswer finished r refl refl h k
 
       module _ (h : i < s .count) where
         -- 18, 19, and a job that starts

@@ -1,16 +1,18 @@
--- A search from the front, step by step as the code goes.
+-- Searches from the front, step by step as the code goes.
 -- Assumes nothing.
-use Prim.Native.Nat.{ℕ, zero, suc, _+_, _-_, _≤_, _<_}
+use Prim.Native.Nat.{ℕ, zero, suc, _+_, _-_, _≤_, _<_, zero-le, suc-le-suc}
 use mathlib.Core.Path.{_≡_, refl, sym, _∙_}
-use mathlib.Core.Bool.{Bool, true, false}
+use mathlib.Core.Bool.{Bool, true, false, cond}
 use mathlib.Core.Option.{Option, none, some, Option·some-ne-none, Option·none-ne-some, Option·some-injective}
-use mathlib.Core.List.{_∷_}
-use native.Mathlib.Nat.{sub-zero}
+use mathlib.Core.List.{List, [], _∷_}
+use native.Mathlib.Nat.{sub-zero, zero-add}
 use native.Mathlib.Decide.{ℕ-discrete}
 use native.Mathlib.Numerals.{add-one}
 use native.Mathlib.Omega.{arith}
-use Rattle.fit.specs.Lists.{numbers, find, findSome}
+use lib.ListN.{length, take, drop, getD, length-take, drop-of-length-le}
+use lib.Seq.{drop-cons, getD-take}
 use lib.Arith.{lt-of-le-ne}
+use Rattle.fit.specs.Lists.{numbers, find, placeOf, orElse, findSome}
 
 -- nothing is found below i
 pub record Left (q : ℕ → Bool) (n i : ℕ) : Type 0 where
@@ -41,23 +43,7 @@ find-end q n i h l =
     let e : n - i ≡ 0 = omega arith in
     sym (l .rest ∙ rw e)
 
--- nothing is found exactly where nothing passes the test
-pub find-none : (q : ℕ → Bool) (a n : ℕ) → find q (numbers a n) ≡ none → (i : ℕ) → a ≤ i → i < a + n → q i ≡ false
-unfolding find numbers
-find-none q a zero e i h h′ = absurd (omega arith)
-find-none q a (suc n) e i h h′ = by (q a) refl (ℕ-discrete i a) (find-none q (suc a) n)
-  where
-    by : (b : Bool) → q a ≡ b → Dec (i ≡ a) → (find q (numbers (suc a) n) ≡ none → (j : ℕ) → suc a ≤ j → j < suc a + n → q j ≡ false) → q i ≡ false
-    by true t d rec = absurd (Option·some-ne-none a (rw t at e))
-    by false t (yes z) rec = rw z t
-    by false t (no z) rec = rec (rw t at e) i (lt-of-le-ne h (λ x. z (sym x))) (omega arith)
-
-pub none-find : (q : ℕ → Bool) (a n : ℕ) → ((i : ℕ) → a ≤ i → i < a + n → q i ≡ false) → find q (numbers a n) ≡ none
-unfolding find numbers
-none-find q a zero h = refl
-none-find q a (suc n) h = rw (h a (omega arith) (omega arith)) (none-find q (suc a) n (λ i b c. h i (omega arith) (omega arith)))
-
--- the same of answers
+-- no answer is found exactly where there is none
 pub findSome-none : (g : ℕ → Option ℕ) (a n : ℕ) → findSome g (numbers a n) ≡ none → (i : ℕ) → a ≤ i → i < a + n → g i ≡ none
 unfolding findSome numbers
 findSome-none g a zero e i h h′ = absurd (omega arith)
@@ -73,6 +59,31 @@ unfolding findSome numbers
 none-findSome g a zero h = refl
 none-findSome g a (suc n) h = rw (h a (omega arith) (omega arith)) (none-findSome g (suc a) n (λ i b c. h i (omega arith) (omega arith)))
 
+-- so nothing is found exactly where nothing passes the test
+as-answer : (q : ℕ → Bool) → ℕ → Option ℕ
+as-answer q i = cond (q i) (some i) none
+
+find-answer : (q : ℕ → Bool) (l : List ℕ) → find q l ≡ findSome (as-answer q) l
+unfolding find findSome as-answer
+find-answer q [] = refl
+find-answer q (i ∷ l) = by (q i) (find-answer q l)
+  where
+    by : (b : Bool) → find q l ≡ findSome (as-answer q) l → cond b (some i) (find q l) ≡ orElse (cond b (some i) none) (findSome (as-answer q) l)
+    by true e = refl
+    by false e = e
+
+pub find-none : (q : ℕ → Bool) (a n : ℕ) → find q (numbers a n) ≡ none → (i : ℕ) → a ≤ i → i < a + n → q i ≡ false
+unfolding as-answer
+find-none q a n e i h h′ = by (q i) (findSome-none (as-answer q) a n (sym (find-answer q (numbers a n)) ∙ e) i h h′)
+  where
+    by : (b : Bool) → _≡_ {A = Option ℕ} (cond b (some i) none) none → b ≡ false
+    by true r = absurd (Option·some-ne-none i r)
+    by false r = refl
+
+pub none-find : (q : ℕ → Bool) (a n : ℕ) → ((i : ℕ) → a ≤ i → i < a + n → q i ≡ false) → find q (numbers a n) ≡ none
+unfolding as-answer
+none-find q a n h = find-answer q (numbers a n) ∙ none-findSome (as-answer q) a n (λ i b c. rw (h i b c))
+
 -- what is found passes the test
 pub find-some : (q : ℕ → Bool) (a n i : ℕ) → find q (numbers a n) ≡ some i → (i < a + n) × (q i ≡ true)
 unfolding find numbers
@@ -86,3 +97,43 @@ find-some q a (suc n) i e = by (q a) refl (find-some q (suc a) n i)
     by false t rec =
         let w = rec (rw t at e) in
         (omega (arith, w .0), w .1)
+
+-- the search for the place of the first that passes: the first i do not
+pub record Searched {A : Type 0} (q : A → Bool) (i : ℕ) (l : List A) : Type 0 where
+  pub place : placeOf q l ≡ i + placeOf q (drop i l)
+
+pub place-start : {A : Type 0} (q : A → Bool) (l : List A) → Searched q 0 l
+place-start q l = record { place = sym (zero-add _) }
+
+module _ {A : Type 0} (d : A) (q : A → Bool) (i count : ℕ) (l : List A) (room : count ≤ length l) (h : i < count) (b : Searched q i (take count l)) where
+  -- what is left of the first `count` of the list from i on
+  rest : drop i (take count l) ≡ getD l i d ∷ drop (suc i) (take count l)
+  rest = drop-cons (take count l) i d (simp length-take (omega arith)) ∙ rw (getD-take count l i d h)
+
+  pub place-hit : q (getD l i d) ≡ true → i ≡ placeOf q (take count l)
+  unfolding placeOf
+  place-hit e =
+      let z : placeOf q (drop i (take count l)) ≡ 0 = rw (rest, e) in
+      omega (arith, b .place)
+
+  pub place-turn : q (getD l i d) ≡ false → Searched q (i + 1) (take count l)
+  unfolding placeOf
+  place-turn e =
+      let z : placeOf q (drop i (take count l)) ≡ suc (placeOf q (drop (suc i) (take count l))) = rw (rest, e) in
+      record { place = rw (add-one i) (omega (arith, b .place, z)) }
+
+pub place-end : {A : Type 0} (q : A → Bool) (i count : ℕ) (l : List A) → count ≤ i → Searched q i (take count l) → i ≡ placeOf q (take count l)
+unfolding placeOf
+place-end q i count l h b =
+    let e : drop i (take count l) ≡ [] = drop-of-length-le (take count l) {i = i} (simp length-take (omega arith)) in
+    let z : placeOf q (drop i (take count l)) ≡ 0 = rw e in
+    omega (arith, b .place)
+
+pub place-within : {A : Type 0} (q : A → Bool) (l : List A) → placeOf q l ≤ length l
+unfolding placeOf
+place-within q [] = zero-le
+place-within q (x ∷ l) = by (q x) (place-within q l)
+  where
+    by : (b : Bool) → placeOf q l ≤ length l → cond b 0 (suc (placeOf q l)) ≤ suc (length l)
+    by true h = zero-le
+    by false h = suc-le-suc h

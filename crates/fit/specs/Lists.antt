@@ -24,6 +24,11 @@ unfoldable pub find : (ℕ → Bool) → List ℕ → Option ℕ
 find q [] = none
 find q (i ∷ l) = cond (q i) (some i) (find q l)
 
+-- how many of a list stand before the first that passes a test
+unfoldable pub placeOf : {A : Type 0} → (A → Bool) → List A → ℕ
+placeOf q [] = 0
+placeOf q (x ∷ l) = cond (q x) 0 (suc (placeOf q l))
+
 -- an answer, or another where there is none
 abbrev pub orElse : Option ℕ → Option ℕ → Option ℕ
 orElse none o = o

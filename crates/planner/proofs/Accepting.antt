@@ -10,9 +10,10 @@ use native.Mathlib.Omega.{arith}
 use borrow.Author.Tests.{ltb-false, eq-eqb, ne-eqb}
 use lib.ListN.{length, drop, getD, length-append}
 use lib.Seq.{drop-at, getD-append-add}
+use lib.Dec.{eqb}
 use Rattle.sheet.specs.Numbers.{word, long}
 use Rattle.sheet.specs.Records.{Figures, figures}
-use Rattle.fit.specs.Lists.{numbers, occurs, Each, EachPair, at}
+use Rattle.fit.specs.Lists.{numbers, occurs, Each, EachPair, at, placeOf}
 use Rattle.fit.specs.Fits.{stretched, overloaded}
 use Rattle.fit.proofs.Lists.{each-of, each-both, each-occurs}
 use Rattle.fit.proofs.Priority.{order-members, order-rising, order-holds, order-ext}
@@ -27,7 +28,7 @@ use Rattle.checker.specs.Verdict.{verdict, accepted}
 use Rattle.checker.proofs.Acceptance.{accepted-exactly}
 use Rattle.planner.specs.declared.Assignment.{Assignment}
 use Rattle.planner.specs.FirstFit.{coreSet, coreFigures, isSome}
-use Rattle.planner.specs.Sheet.{two, four, header, taskRecord, coreRecord, records, orZeros, figuresFor, placeOf, factorFor, sheetOf}
+use Rattle.planner.specs.Sheet.{two, four, header, taskRecord, coreRecord, records, orZeros, figuresFor, factorFor, sheetOf}
 use Rattle.planner.proofs.Settling.{Settled}
 use Rattle.planner.proofs.Writing.{records-length}
 use Rattle.planner.proofs.Decoding.{record-at, record-word, record-long, task-period, task-budget, task-factor, core-pivot, core-divisor}
@@ -43,14 +44,14 @@ length-map f [] = refl
 length-map f (i ∷ l) = ap suc (length-map f l)
 
 -- what stands at the place of each task is the whole list
-map-places : (fs l : List ℕ) → EachPair (λ i j. i ≡ j → ⊥) l → length fs ≡ length l → map (λ i. at fs (placeOf i l)) l ≡ fs
+map-places : (fs l : List ℕ) → EachPair (λ i j. i ≡ j → ⊥) l → length fs ≡ length l → map (λ i. at fs (placeOf (λ z. eqb z i) l)) l ≡ fs
 unfolding placeOf EachPair
 map-places [] [] d e = refl
 map-places (y ∷ fs) [] d e = absurd (omega arith)
 map-places [] (x ∷ l) d e = absurd (omega arith)
 map-places (y ∷ fs) (x ∷ l) d e =
     rw (eq-eqb x x refl)
-    (ap (λ (t : List ℕ). y ∷ t) (map-ext _ (λ i. at fs (placeOf i l)) l (each-of l (λ i q. rw (ne-eqb x i q)) (d .0)) ∙ map-places fs l (d .1) (omega arith)))
+    (ap (λ (t : List ℕ). y ∷ t) (map-ext _ (λ i. at fs (placeOf (λ z. eqb z i) l)) l (each-of l (λ i q. rw (ne-eqb x i q)) (d .0)) ∙ map-places fs l (d .1) (omega arith)))
 
 -- what is some
 some-of : (x : Option Acceleration) → isSome x ≡ true → (a : Acceleration) × (x ≡ some a)
@@ -96,7 +97,7 @@ module _ (p e : ℕ → ℕ) (n limit : ℕ) (a : Assignment) (small : limit ≤
     own-factors : map M (on k) ≡ own .0 .factors
     unfolding M factorFor on coreSet
     own-factors =
-        map-ext _ (λ i. at (own .0 .factors) (placeOf i (on k))) (on k) (each-of (on k) (λ i m. rw (m .1, own-figures)) (on-members k))
+        map-ext _ (λ i. at (own .0 .factors) (placeOf (λ z. eqb z i) (on k))) (on k) (each-of (on k) (λ i m. rw (m .1, own-figures)) (on-members k))
         ∙ map-places (own .0 .factors) (on k) once size
       where
         once : EachPair (λ i j. i ≡ j → ⊥) (coreSet p n (a .core) k)

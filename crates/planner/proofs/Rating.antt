@@ -14,7 +14,7 @@ use lib.Dec.{eqb}
 use lib.ListN.{length, take, set, replicate, length-set, List·getD-append, List·getD-eq-default, getD-replicate, length-replicate}
 use lib.Seq.{getD-set-same, getD-set-other, getD-append-add}
 use Rattle.fit.specs.declared.Order.{Order}
-use Rattle.fit.specs.Lists.{select, occurs, Each, EachPair, at, padded}
+use Rattle.fit.specs.Lists.{select, occurs, Each, EachPair, at, padded, placeOf}
 use Rattle.fit.specs.Answers.{Ordered}
 use Rattle.fit.proofs.Lists.{each-of}
 use Rattle.fit.proofs.Priority.{order-members, order-rising, order-holds}
@@ -25,7 +25,7 @@ use Rattle.figures.specs.Constructions.{Acceleration}
 use Rattle.figures.specs.Answers.{written, outcome}
 use Rattle.planner.specs.declared.Assignment.{Assignment}
 use Rattle.planner.specs.FirstFit.{coreSet, coreFigures}
-use Rattle.planner.specs.Sheet.{orZeros, figuresFor, placeOf, factorFor}
+use Rattle.planner.specs.Sheet.{orZeros, figuresFor, factorFor}
 use Rattle.planner.specs.Steps.{Prioritized, Assigned, on, spread, Rated}
 use Rattle.planner.proofs.Fitting.{picked}
 
@@ -40,18 +40,18 @@ unfolding spread Each
 spread-other own [] m factors i h = refl
 spread-other own (j ∷ l) m factors i h = spread-other own l (suc m) (set factors j (at own m)) i (h .1) ∙ getD-set-other factors j i (at own m) 0 (h .0)
 
-spread-at : (own l : List ℕ) (m : ℕ) (factors : List ℕ) (i : ℕ) → i < length factors → EachPair (λ j k. j ≡ k → ⊥) l → 1 ≤ occurs i l → at (spread own l m factors) i ≡ at own (m + placeOf i l)
+spread-at : (own l : List ℕ) (m : ℕ) (factors : List ℕ) (i : ℕ) → i < length factors → EachPair (λ j k. j ≡ k → ⊥) l → 1 ≤ occurs i l → at (spread own l m factors) i ≡ at own (m + placeOf (λ z. eqb z i) l)
 unfolding spread occurs placeOf EachPair
 spread-at own [] m factors i q d o = absurd (omega arith)
 spread-at own (j ∷ l) m factors i q d o = by (ℕ-discrete j i) (spread-at own l (suc m) (set factors j (at own m)) i (rw length-set q) (d .1))
   where
-    by : Dec (j ≡ i) → (1 ≤ occurs i l → at (spread own l (suc m) (set factors j (at own m))) i ≡ at own (suc m + placeOf i l)) → at (spread own l (suc m) (set factors j (at own m))) i ≡ at own (m + cond (eqb j i) 0 (suc (placeOf i l)))
+    by : Dec (j ≡ i) → (1 ≤ occurs i l → at (spread own l (suc m) (set factors j (at own m))) i ≡ at own (suc m + placeOf (λ z. eqb z i) l)) → at (spread own l (suc m) (set factors j (at own m))) i ≡ at own (m + cond (eqb j i) 0 (suc (placeOf (λ z. eqb z i) l)))
     by (yes e) r =
         let mine : Each (λ k. i ≡ k → ⊥) l = rw e at (d .0) in
         rw (e, eq-eqb i i refl, add-zero m) (spread-other own l (suc m) (set factors i (at own m)) i mine ∙ getD-set-same factors i (at own m) 0 q)
     by (no e) r =
         let later : 1 ≤ occurs i l = rw (ne-eqb j i e) at o in
-        let place : suc m + placeOf i l ≡ m + suc (placeOf i l) = omega arith in
+        let place : suc m + placeOf (λ z. eqb z i) l ≡ m + suc (placeOf (λ z. eqb z i) l) = omega arith in
         rw (ne-eqb j i e, ← place) (r later)
 
 -- a core's outcome holds its figures, and zeros where there are none
@@ -88,7 +88,7 @@ pub record Rating (l core : List ℕ) (k : ℕ) (pivots divisors factors : List 
   pub factor-size : length factors ≡ 64
   pub pivot : (j : ℕ) → j < k → at pivots j ≡ orZeros (coreFigures (jobPeriod l) (jobBudget l) (jobCount l) core j) .Q
   pub divisor : (j : ℕ) → j < k → at divisors j ≡ orZeros (coreFigures (jobPeriod l) (jobBudget l) (jobCount l) core j) .D
-  pub factor : (i : ℕ) → i < jobCount l → at core i < k → at factors i ≡ at (orZeros (coreFigures (jobPeriod l) (jobBudget l) (jobCount l) core (at core i)) .factors) (placeOf i (coreSet (jobPeriod l) (jobCount l) core (at core i)))
+  pub factor : (i : ℕ) → i < jobCount l → at core i < k → at factors i ≡ at (orZeros (coreFigures (jobPeriod l) (jobBudget l) (jobCount l) core (at core i)) .factors) (placeOf (λ z. eqb z i) (coreSet (jobPeriod l) (jobCount l) core (at core i)))
 
 pub rate-start : (l core pivots divisors factors : List ℕ) → length pivots ≡ 8 → length divisors ≡ 8 → length factors ≡ 64 → Rating l core 0 pivots divisors factors
 rate-start l core pivots divisors factors a b c =
@@ -125,11 +125,11 @@ module _ (l order core : List ℕ) (k : ℕ) (pivots divisors factors : List ℕ
       tasks : take (o .count) (o .tasks) ≡ coreSet (jobPeriod l) (jobCount l) core k
       tasks = h .tasks ∙ picked l order core k pr
 
-      by : (i : ℕ) → i < jobCount l → at core i < k + 1 → Dec (at core i ≡ k) → at (spread (r .figures .factors) (take (o .count) (o .tasks)) 0 factors) i ≡ at (orZeros (coreFigures (jobPeriod l) (jobBudget l) (jobCount l) core (at core i)) .factors) (placeOf i (coreSet (jobPeriod l) (jobCount l) core (at core i)))
+      by : (i : ℕ) → i < jobCount l → at core i < k + 1 → Dec (at core i ≡ k) → at (spread (r .figures .factors) (take (o .count) (o .tasks)) 0 factors) i ≡ at (orZeros (coreFigures (jobPeriod l) (jobBudget l) (jobCount l) core (at core i)) .factors) (placeOf (λ z. eqb z i) (coreSet (jobPeriod l) (jobCount l) core (at core i)))
       by i n b (yes z) =
           rw (z, tasks)
           (spread-at (r .figures .factors) (coreSet (jobPeriod l) (jobCount l) core k) 0 factors i (omega (arith, n, pr .few, d .factor-size)) (rising-differ (jobPeriod l) _ (order-rising (jobPeriod l) (at core) k (jobCount l))) (order-holds (jobPeriod l) (at core) k (jobCount l) i n z)
-          ∙ rw zero-add (ap (λ t. at (t .factors) (placeOf i (coreSet (jobPeriod l) (jobCount l) core k))) own-figures ∙ padded-at _ _))
+          ∙ rw zero-add (ap (λ t. at (t .factors) (placeOf (λ z. eqb z i) (coreSet (jobPeriod l) (jobCount l) core k))) own-figures ∙ padded-at _ _))
       by i n b (no z) =
           rw tasks
           (spread-other (r .figures .factors) (coreSet (jobPeriod l) (jobCount l) core k) 0 factors i (each-of _ (λ j m x. z (ap (at core) x ∙ m .1)) (order-members (jobPeriod l) (at core) k (jobCount l)))

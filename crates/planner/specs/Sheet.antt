@@ -1,10 +1,9 @@
 -- Document 01, "The sheet, mark TSH, version 1" and "Written form": the bytes of the sheet for an assignment of tasks to cores.
-use Prim.Native.Nat.{ℕ, suc, _/_, _%_}
-use mathlib.Core.Bool.{cond}
+use Prim.Native.Nat.{ℕ, _/_, _%_}
 use mathlib.Core.Option.{Option, none, some}
 use mathlib.Core.List.{List, [], _∷_, _++_}
 use lib.Dec.{eqb}
-use Rattle.fit.specs.Lists.{numbers, at}
+use Rattle.fit.specs.Lists.{numbers, at, placeOf}
 use Rattle.figures.specs.Constructions.{Acceleration}
 use Rattle.planner.specs.declared.Assignment.{Assignment}
 use Rattle.planner.specs.FirstFit.{coreSet, coreFigures}
@@ -39,14 +38,9 @@ orZeros (some a) = a
 unfoldable pub figuresFor : (ℕ → ℕ) → (ℕ → ℕ) → ℕ → Assignment → ℕ → Acceleration
 figuresFor p e n a k = orZeros (coreFigures p e n (a .core) k)
 
--- the place of a task in a list
-unfoldable pub placeOf : ℕ → List ℕ → ℕ
-placeOf i [] = 0
-placeOf i (j ∷ l) = cond (eqb j i) 0 (suc (placeOf i l))
-
 -- the factor of task i: the one at its place on its core
 unfoldable pub factorFor : (ℕ → ℕ) → (ℕ → ℕ) → ℕ → Assignment → ℕ → ℕ
-factorFor p e n a i = at (figuresFor p e n a (at (a .core) i) .factors) (placeOf i (coreSet p n (a .core) (at (a .core) i)))
+factorFor p e n a i = at (figuresFor p e n a (at (a .core) i) .factors) (placeOf (λ j. eqb j i) (coreSet p n (a .core) (at (a .core) i)))
 
 -- the sheet
 unfoldable pub sheetOf : (ℕ → ℕ) → (ℕ → ℕ) → ℕ → Assignment → List ℕ

@@ -2,7 +2,8 @@ use borrow.Author.Needs.{needs}
 use Prim.Native.Nat.{_≤_, _-_}
 use Rattle.timing.specs.Tasks.{named}
 use Rattle.dispatcher.specs.State.{tasksOf}
-use Rattle.dispatcher.proofs.Places.{Searched, place-start, place-turn, place-hit, place-end, is-named, not-named, array-length}
+use Rattle.fit.proofs.Finds.{Searched, place-start, place-end}
+use Rattle.dispatcher.proofs.Places.{task-hit, task-turn, is-named, not-named, array-length}
 use Rattle.dispatcher.proofs.first_named.Statement.{statement}
 use Rattle.dispatcher.proofs.first_named.Tie as tie
 use Rattle.dispatcher.proofs.first_named.Reads as reads
@@ -32,7 +33,7 @@ cast-if1 c = search needs
 
 -- src/lib.rt:111:13
 returns : tie.Need-returns Inv-loop μ-loop
-returns c = search (place-hit, is-named, array-length, needs)
+returns c = search (task-hit, is-named, array-length, needs)
 
 -- src/lib.rt:113:9
 add-i : tie.Need-add-i Inv-loop μ-loop
@@ -44,7 +45,7 @@ loop-less c = search needs
 
 -- src/lib.rt:108:5
 loop-again : tie.Need-loop-again Inv-loop μ-loop
-loop-again c = (search needs, search (place-turn, not-named, array-length, needs))
+loop-again c = (search needs, search (task-turn, not-named, array-length, needs))
 
 -- src/lib.rt:102:1
 returns-2 : tie.Need-returns-2 Inv-loop μ-loop

@@ -2,7 +2,8 @@ use borrow.Author.Needs.{needs}
 use Prim.Native.Nat.{_≤_, _-_}
 use Rattle.timing.specs.Tasks.{pending}
 use Rattle.dispatcher.specs.State.{tasksOf}
-use Rattle.dispatcher.proofs.Places.{Searched, place-start, place-turn, place-hit, place-end, is-pending, not-pending, array-length}
+use Rattle.fit.proofs.Finds.{Searched, place-start, place-end}
+use Rattle.dispatcher.proofs.Places.{task-hit, task-turn, is-pending, not-pending, array-length}
 use Rattle.dispatcher.proofs.first_pending.Statement.{statement}
 use Rattle.dispatcher.proofs.first_pending.Tie as tie
 use Rattle.dispatcher.proofs.first_pending.Reads as reads
@@ -28,7 +29,7 @@ element-copy-out-t c = search needs
 
 -- src/lib.rt:94:13
 returns : tie.Need-returns Inv-loop μ-loop
-returns c = search (place-hit, is-pending, array-length, needs)
+returns c = search (task-hit, is-pending, array-length, needs)
 
 -- src/lib.rt:96:9
 add-i : tie.Need-add-i Inv-loop μ-loop
@@ -40,7 +41,7 @@ loop-less c = search needs
 
 -- src/lib.rt:91:5
 loop-again : tie.Need-loop-again Inv-loop μ-loop
-loop-again c = (search needs, search (place-turn, not-pending, array-length, needs))
+loop-again c = (search needs, search (task-turn, not-pending, array-length, needs))
 
 -- src/lib.rt:85:1
 returns-2 : tie.Need-returns-2 Inv-loop μ-loop
