@@ -1,5 +1,7 @@
--- Document 01, "Bench cards": what each card says of the definitions.
+-- Document 01, "Bench cards" and "The listing": what each card says of the definitions, and what the listing prints.
 use Prim.Native.Nat.{ℕ}
+use Prim.Native.Char.{code}
+use Prim.Native.String.{String, [] as []ˢ, _∷_ as _∷ˢ_}
 use mathlib.Core.Path.{_≡_}
 use mathlib.Core.List.{List, [], _∷_, _++_, map}
 use Rattle.sheet.specs.Table.{scan}
@@ -18,6 +20,7 @@ use Rattle.dispatcher.specs.Operations.{ask, step}
 use Rattle.dispatcher.specs.Starts.{sheetAnswer, sheetState, listAnswer, listState}
 use Rattle.planner.specs.Plan.{fitOf, sheetFor, planOutcome}
 use Rattle.planner.specs.Plan as planner
+use Rattle.listing.specs.Listing.{listingOf}
 
 -- a header with n and c, and records of numbers below 256 on core 0
 abbrev pub header : (n c : ℕ) → List ℕ
@@ -126,7 +129,30 @@ logL =
 abbrev pub ring : List ℕ → ℕ → List ℕ
 ring ps n = map (at ps) (orderBy Ring (at ps) n)
 
--- the cards
+-- the codes of a line's characters, and of lines that each end with a line feed
+abbrev pub codes : String → List ℕ
+codes []ˢ = []
+codes (c ∷ˢ s) = code c ∷ codes s
+
+abbrev pub text : List String → List ℕ
+text [] = []
+text (s ∷ l) = codes s ++ (10 ∷ text l)
+
+-- "it prints exactly:"
+abbrev pub linesB : List String
+linesB =
+    "TSH 1 tasks 3 cores 1"
+    ∷ "task 0 core 0 period 3 budget 1 factor 1 within 3"
+    ∷ "task 1 core 0 period 7 budget 1 factor 2 within 6"
+    ∷ "task 2 core 0 period 13 budget 6 factor 4 within 12"
+    ∷ "core 0 pivot 3 divisor 1 load 1000"
+    ∷ []
+
+-- "A refused sheet prints one line"
+abbrev pub linesC : List String
+linesC = "refused 14 place 64" ∷ []
+
+-- the cards, and the listing of the sheets of B and C
 pub record Cards : Type 0 where
   pub A : verdict (header 0 0) ≡ checker.accepted 0 0
   pub B : verdict (listed 6 4) ≡ checker.accepted 3 1
@@ -144,3 +170,5 @@ pub record Cards : Type 0 where
   pub K : onSheet (sheetOf jobsI) logK ≡ run logK
   pub L : onBench jobsL logL ≡ run logL
   pub M : ring (7 ∷ 16 ∷ 21 ∷ []) 3 ≡ 16 ∷ 21 ∷ 7 ∷ []
+  pub listingB : listingOf (listed 6 4) ≡ text linesB
+  pub listingC : listingOf (listed 7 4) ≡ text linesC

@@ -1,4 +1,4 @@
-// Runs the bench cards of document 01 through the code and prints one line for each.
+// Runs the bench cards of document 01 through the code and prints one line for each, then the listing of the sheets of B and C.
 ghost use Prim.Native.Nat.{_+_, _*_, _≤_};
 ghost use mathlib.Core.Path.{_≡_};
 ghost use lib.ListN.{length};
@@ -11,6 +11,7 @@ use dispatcher::Core;
 use dispatcher::Step;
 use fit::By;
 use libc::STDOUT_FILENO;
+use listing::Listed;
 use planner::Planned;
 use sheet::Refusal;
 
@@ -257,6 +258,19 @@ fn card_m() {
     print(b"\n");
 }
 
+// "The listing": the text of a sheet.
+fn print_listing(sheet: &[u8]) {
+    let mut text = [0u8; 8192];
+    let answer = listing::list_sheet(sheet, &mut text);
+    match answer {
+        Listed::Written(length) => {
+            let end = length as usize;
+            print(&text[..end]);
+        }
+        Listed::Tight => {}
+    }
+}
+
 fn main() {
     let mut out = [0u8; 712];
     check_cards();
@@ -265,4 +279,6 @@ fn main() {
     cards_i_to_k();
     card_l(&jobs_l());
     card_m();
+    print_listing(&listed(6, 4));
+    print_listing(&listed(7, 4));
 }

@@ -10,8 +10,9 @@ use lib.Seq.{split-at, getD-take, getD-drop, length-take-le}
 use Rattle.fit.specs.Lists.{at}
 use Rattle.fit.specs.Fits.{Multiple}
 use Rattle.figures.specs.Constructions.{ceiling, down, downs, up, ups, dct}
+use Rattle.figures.specs.Meaning.{Rising, DctPeriods, Factors, Sound}
 use Rattle.figures.proofs.Ceiling.{ceiling-reaches, ceiling-before, ceiling-positive, ceiling-scale}
-use Rattle.figures.proofs.Sound.{Rising, rising-at, Factors, Sound}
+use Rattle.figures.proofs.Sound.{rising-at}
 
 -- one step down: the accelerated period q / d of a task with period p
 module _ (q p d : ℕ) (posq : 0 < q) (posp : 0 < p) (posd : 0 < d) where
@@ -143,13 +144,6 @@ dct-sound ps i r h =
           (down-factors q rest D 1 1 l _ posD (omega arith) all (multiple-of-one (D / D)) (multiple-of-self D) above);
     }
 
--- the accelerated periods T = Q × M / D of DCT with the pivot at place i: at the pivot T is Q; after it T(k + 1) is T(k) × floor(p(k + 1) / T(k));
--- before it T(k) is T(k + 1) divided by ceil(T(k + 1) / p(k))
-pub record Steps (ps : List ℕ) (i Q D : ℕ) (M : ℕ → ℕ) : Type 0 where
-  pub pivot : M i ≡ D
-  pub up : (k : ℕ) → i ≤ k → suc k < length ps → M (suc k) ≡ M k * (at ps (suc k) * D / (Q * M k))
-  pub down : (k : ℕ) → k < i → M (suc k) ≡ M k * ceiling (Q * M (suc k)) (at ps k * D)
-
 module _ (q D : ℕ) (posD : 0 < D) where
   -- a step up, of m and of the factor D × m
   up-exact : (p m : ℕ) → D * up q p m ≡ D * m * (p * D / (q * (D * m)))
@@ -207,9 +201,10 @@ ups-at q m [] j h = absurd (omega arith)
 ups-at q m (p ∷ l) zero h = refl
 ups-at q m (p ∷ l) (suc j) h = ups-at q (up q p m) l j (omega arith)
 
-pub dct-steps : (ps : List ℕ) (i : ℕ) → Rising 1 ps → i < length ps → Steps ps i (dct ps i .Q) (dct ps i .D) (at (dct ps i .factors))
+-- the periods are the stated ones
+pub dct-periods : (ps : List ℕ) (i : ℕ) → Rising 1 ps → i < length ps → DctPeriods ps i (dct ps i .Q) (dct ps i .D) (at (dct ps i .factors))
 unfolding dct
-dct-steps ps i r h = record { pivot = pivot; up = λ k low high. upward (k - i) k (sym (add-sub-of-le low)) high; down = downward }
+dct-periods ps i r h = record { pivot = pivot; up = λ k low high. upward (k - i) k (sym (add-sub-of-le low)) high; down = downward }
   where
     q : ℕ
     q = at ps i

@@ -12,12 +12,13 @@ use mir.Syntax.{w32}
 use mir.Val.{Fits}
 use Rattle.fit.specs.Lists.{at, padded}
 use Rattle.figures.specs.Constructions.{down, downs, dct}
+use Rattle.figures.specs.Meaning.{Rising, DctPeriods, Sound}
 use Rattle.figures.specs.Steps.{Ready}
 use Rattle.figures.specs.Answers.{written}
 use Rattle.figures.proofs.Lists.{length-map, at-map}
-use Rattle.figures.proofs.Sound.{Rising, Sound, divisor-bound, factors-at, factors-bound, factors-length}
+use Rattle.figures.proofs.Sound.{divisor-bound, factors-at, factors-bound, factors-length}
 use Rattle.figures.proofs.Ranges.{periods, pivot-low, pivot-high, period-low, period-high}
-use Rattle.figures.proofs.DctLaws.{Steps, dct-sound, dct-steps, down-positive, down-bound, downs-length, downs-positive}
+use Rattle.figures.proofs.DctLaws.{dct-sound, dct-periods, down-positive, down-bound, downs-length, downs-positive}
 use Rattle.figures.proofs.Filling.{Filled, filled-start, filled-turn, filled-end, at-padded, padded-length}
 
 -- the divisors from place i to the pivot are in the array, and d is the first of them
@@ -147,8 +148,8 @@ module _ (ps : List ℕ) (c : ℕ) (r : Ready ps c) where
   sound : Sound 2 ps (dct ps c)
   sound = dct-sound ps c (periods ps c r) (r .inside)
 
-  steps : Steps ps c (dct ps c .Q) (dct ps c .D) (at (dct ps c .factors))
-  steps = dct-steps ps c (periods ps c r) (r .inside)
+  steps : DctPeriods ps c (dct ps c .Q) (dct ps c .D) (at (dct ps c .factors))
+  steps = dct-periods ps c (periods ps c r) (r .inside)
 
   all-length : length (dct ps c .factors) ≡ length ps
   all-length = factors-length (dct ps c .Q) (dct ps c .D) 1 ps (dct ps c .factors) (sound .factors)

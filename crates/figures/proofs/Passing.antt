@@ -15,11 +15,12 @@ use Rattle.fit.specs.Fits.{stretched, Multiples, lastFactor, load, overloaded}
 use Rattle.fit.proofs.Lists.{each-append}
 use Rattle.figures.specs.declared.Outcome.{Outcome}
 use Rattle.figures.specs.Constructions.{Acceleration, leastPower, largestPower, sr, dct}
+use Rattle.figures.specs.Meaning.{Rising, Factors, Sound}
 use Rattle.figures.specs.Passing.{passes, first, eachPivot, trials, rising, taskSet, firstPassing}
 use Rattle.figures.specs.Answers.{written, outcome}
 use Rattle.figures.proofs.Lists.{length-map, at-map, by-place, sum-by-place, last-by-place}
 use Rattle.figures.proofs.Powers.{least-unique, least-power}
-use Rattle.figures.proofs.Sound.{both-true, Rising, rising-test, Factors, factors-at, Sound, divisor-bound, factors-bound}
+use Rattle.figures.proofs.Sound.{both-true, rising-test, factors-at, divisor-bound, factors-bound}
 use Rattle.figures.proofs.SrLaws.{sr-sound}
 use Rattle.figures.proofs.DctLaws.{dct-sound}
 

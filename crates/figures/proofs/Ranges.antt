@@ -6,8 +6,9 @@ use mathlib.Core.List.{List}
 use native.Mathlib.Omega.{arith}
 use lib.ListN.{length}
 use Rattle.fit.specs.Lists.{at}
+use Rattle.figures.specs.Meaning.{Rising}
 use Rattle.figures.specs.Steps.{Ready}
-use Rattle.figures.proofs.Sound.{Rising, rising-test, rising-at}
+use Rattle.figures.proofs.Sound.{rising-test, rising-at}
 
 module _ (ps : List ℕ) (c : ℕ) (r : Ready ps c) where
   pub periods : Rising 1 ps

@@ -18,10 +18,11 @@ use Rattle.figures.specs.declared.Outcome.{Outcome}
 use Rattle.figures.specs.declared.Kind.{Kind}
 use Rattle.figures.specs.declared.Kind.the-variants.{Sr, Dct}
 use Rattle.figures.specs.Constructions.{Acceleration, sr, dct}
+use Rattle.figures.specs.Meaning.{Sound}
 use Rattle.figures.specs.Passing.{passes, first, eachPivot, trials, rising, taskSet, firstPassing}
 use Rattle.figures.specs.Steps.{Ready, Usable, readBack, construction}
 use Rattle.figures.specs.Answers.{written, outcome}
-use Rattle.figures.proofs.Sound.{both-true, Sound, divisor-bound, factors-at, factors-bound}
+use Rattle.figures.proofs.Sound.{both-true, divisor-bound, factors-at, factors-bound}
 use Rattle.figures.proofs.Ranges.{periods}
 use Rattle.figures.proofs.SrLaws.{sr-sound}
 use Rattle.figures.proofs.DctLaws.{dct-sound}

@@ -10,14 +10,9 @@ use borrow.Author.Tests.{leb-true}
 use lib.ListN.{length}
 use lib.Dec.{leb}
 use Rattle.fit.specs.Lists.{at}
-use Rattle.fit.specs.Fits.{Multiple}
 use Rattle.figures.specs.Constructions.{Acceleration}
+use Rattle.figures.specs.Meaning.{Rising, Factors, Sound}
 use Rattle.figures.specs.Passing.{rising}
-
--- periods in priority order, none below a and none above 60,000
-unfoldable pub Rising : ℕ → List ℕ → Type 0
-Rising a [] = Unit {0}
-Rising a (p ∷ ps) = (a ≤ p) × (p ≤ 60000) × Rising p ps
 
 pub both-true : (s t : Bool) → (s && t) ≡ true → (s ≡ true) × (t ≡ true)
 both-true true t h = (refl, h)
@@ -45,26 +40,6 @@ rising-pair a (p ∷ ps) h zero zero q r = le-refl p
 rising-pair a (p ∷ ps) h zero (suc j) q r = rising-at p ps (h .2) j (omega arith) .0
 rising-pair a (p ∷ ps) h (suc i) zero q r = absurd (omega arith)
 rising-pair a (p ∷ ps) h (suc i) (suc j) q r = rising-pair p ps (h .2) i j (omega arith) (omega arith)
-
--- a factor after d: Q × M ≤ p × D, a multiple of d, at least 1
-pub record Factor (Q D d p m : ℕ) : Type 0 where
-  pub accelerated : Q * m ≤ p * D
-  pub multiple : Multiple d m
-  pub positive : 0 < m
-
--- factors of tasks with these periods, after a factor d
-unfoldable pub Factors : ℕ → ℕ → ℕ → List ℕ → List ℕ → Type 0
-Factors Q D d [] [] = Unit {0}
-Factors Q D d [] (m ∷ ms) = ⊥
-Factors Q D d (p ∷ ps) [] = ⊥
-Factors Q D d (p ∷ ps) (m ∷ ms) = Factor Q D d p m × Factors Q D m ps ms
-
--- figures of tasks with these periods: every task accelerated, the factors a chain from 1, the divisor below b × Q
-pub record Sound (b : ℕ) (ps : List ℕ) (a : Acceleration) : Type 0 where
-  pub pivot : (1 ≤ a .Q) × (a .Q ≤ 60000)
-  pub divisor : (1 ≤ a .D) × (a .D < b * a .Q)
-  pub one : at (a .factors) 0 ≡ 1
-  pub factors : Factors (a .Q) (a .D) 1 ps (a .factors)
 
 pub factors-length : (Q D d : ℕ) (ps ms : List ℕ) → Factors Q D d ps ms → length ms ≡ length ps
 unfolding Factors

@@ -11,17 +11,10 @@ use lib.Pow.{pow-add}
 use Rattle.fit.specs.Lists.{at}
 use Rattle.fit.specs.Fits.{Multiple}
 use Rattle.figures.specs.Constructions.{Power, leastPower, largestPower, sr}
+use Rattle.figures.specs.Meaning.{Rising, Multiplier, Factors, Sound}
 use Rattle.figures.proofs.Powers.{Least, Largest, least-power, largest-power, power-positive, power-mono}
 use Rattle.figures.proofs.Lists.{at-map}
-use Rattle.figures.proofs.Sound.{Rising, rising-at, rising-pair, Factors, Sound}
-
--- M / D is the largest power of b, whose exponent may be negative, with Q × power ≤ p: both are powers, Q × M / D ≤ p,
--- and a power x / y with Q × x / y ≤ p is at most M / D
-pub record Multiplier (b Q p M D : ℕ) : Type 0 where
-  pub factor : Power b M
-  pub divisor : Power b D
-  pub fits : Q * M ≤ p * D
-  pub largest : (j k : ℕ) → Q * b ^ j ≤ p * b ^ k → b ^ j * D ≤ M * b ^ k
+use Rattle.figures.proofs.Sound.{rising-at, rising-pair}
 
 module _ (b : ℕ) (two : 2 ≤ b) where
   -- a larger power is a multiple of a smaller one

@@ -10,12 +10,13 @@ use mir.Syntax.{w32, w64}
 use mir.Val.{Fits}
 use Rattle.fit.specs.Lists.{at}
 use Rattle.figures.specs.Constructions.{Power, leastPower, largestPower, sr}
+use Rattle.figures.specs.Meaning.{Rising, Multiplier, Sound}
 use Rattle.figures.specs.Steps.{Ready}
 use Rattle.figures.specs.Answers.{written}
 use Rattle.figures.proofs.Lists.{length-map, at-map}
-use Rattle.figures.proofs.Sound.{Rising, rising-pair, Sound, divisor-bound, factors-bound}
+use Rattle.figures.proofs.Sound.{rising-pair, divisor-bound, factors-bound}
 use Rattle.figures.proofs.Ranges.{periods, period-high}
-use Rattle.figures.proofs.SrLaws.{Multiplier, sr-sound, sr-multiplier}
+use Rattle.figures.proofs.SrLaws.{sr-sound, sr-multiplier}
 use Rattle.figures.proofs.Filling.{Filled, filled-start, filled-turn, filled-end}
 
 -- the first i factors are in the array; m is a power that fits every period from place i on

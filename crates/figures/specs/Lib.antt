@@ -1,4 +1,5 @@
 pub mod Constructions
+pub mod Meaning
 pub mod Passing
 pub mod Answers
 pub mod Steps

@@ -3,7 +3,7 @@
 use Prim.Native.Nat.{ℕ, suc, _+_, _*_, _/_, _≤_, _<_, min}
 use mathlib.Core.Path.{_≡_, refl, sym, ap, _∙_}
 use mathlib.Core.Bool.{Bool, true, false, cond, _&&_, and-false}
-use mathlib.Core.List.{List, _++_}
+use mathlib.Core.List.{List, [], _∷_, _++_}
 use native.Mathlib.Omega.{arith}
 use native.Mathlib.Numerals.{add-one}
 use borrow.Author.Tests.{lt-ltb, le-ltb, eq-eqb, ne-eqb, ltb-true}
@@ -12,6 +12,7 @@ use lib.ListN.{length, take, drop, set, getD, replicate, drop-of-length-le}
 use lib.Seq.{drop-cons, take-suc, set-at, append-snoc, length-take-le}
 use Rattle.jobtext.specs.declared.Line.{Line}
 use Rattle.jobtext.specs.declared.State.{State}
+use Rattle.jobtext.specs.declared.Read.{Read}
 use Rattle.jobtext.specs.declared.Read.the-variants.{Jobs, Wrong}
 use Rattle.jobtext.proofs.Lines.{chosen, passed}
 use Rattle.jobtext.specs.Text.{emptyLine, inLine, startState, withJob, added, newLine, stoppedAt, lineEnd, step, run, finish, roomIn, readOf, holding}
@@ -144,3 +145,29 @@ module _ (text out : List ℕ) (s : State) (room : ℕ) (e : s ≡ finish room t
   pub jobs-bytes : (new : List ℕ) → s .stopped ≡ false → new ≡ take (4 * s .count) (s .jobs) ++ drop (4 * s .count) out → new ≡ holding (finish (roomIn out) text) out
   unfolding holding
   jobs-bytes new h b = passed _ h b ∙ ap (λ (x : State). holding x out) same
+
+-- no more jobs are read than there is room for
+run-counted : (room : ℕ) (s : State) (l : List ℕ) → s .count ≤ room → run room s l .count ≤ room
+unfolding run
+run-counted room s [] h = h
+run-counted room s (b ∷ l) h = run-counted room (step room s b) l (step-bounds room s b h .1)
+
+counted : (room : ℕ) (text : List ℕ) → finish room text .count ≤ room
+unfolding finish
+counted room text = step-bounds room (run room startState text) 10 (run-counted room startState text (omega arith)) .1
+
+-- the jobs that are read lie within the output, and that front of it is as long
+module _ (r : Read) (n : ℕ) (text out new : List ℕ) (e : r ≡ Jobs n) (h : r ≡ readOf (finish (roomIn out) text)) (same : length new ≡ length out) where
+  pub jobs-inside : n ≤ length new
+  unfolding readOf roomIn
+  jobs-inside = by (finish (roomIn out) text .stopped) (sym e ∙ h)
+    where
+      few : finish (roomIn out) text .count ≤ min 64 (length out / 4)
+      few = counted (roomIn out) text
+
+      by : (stopped : Bool) → Jobs n ≡ cond stopped (Wrong (finish (roomIn out) text .number)) (Jobs (4 * finish (roomIn out) text .count)) → n ≤ length new
+      by true q = let never : _≡_ {A = ℕ} 0 1 = cc in absurd (omega arith)
+      by false q = let w : n ≡ 4 * finish (roomIn out) text .count = cc in omega (arith, w, few, same)
+
+  pub jobs-front : n ≡ length (take n new)
+  jobs-front = sym (length-take-le n new jobs-inside)

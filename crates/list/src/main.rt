@@ -11,7 +11,9 @@ fn main() {
     match listed {
         Listed::Written(length) => {
             let end = length as usize;
-            io::write_all(libc::STDOUT_FILENO, &text[..end]);
+            if !io::write_all(libc::STDOUT_FILENO, &text[..end]) {
+                os::fail(b"standard output");
+            }
         }
         Listed::Tight => {}
     }

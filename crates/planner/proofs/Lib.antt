@@ -7,3 +7,4 @@ pub mod Settling
 pub mod Decoding
 pub mod Accepting
 pub mod Planning
+pub mod Inside

@@ -7,6 +7,7 @@ use Rattle.list.proofs.main.Lts as lts
 use Rattle.io.proofs.read_full.Reads as read-full-reads
 use Rattle.io.proofs.write_all.Reads as write-all-reads
 use Rattle.listing.proofs.list_sheet.Reads as list-sheet-reads
+use Rattle.os.proofs.fail.Reads as fail-reads
 
 -- src/main.rt:8:47
 slice-aggregate-read-full : tie.Need-slice-aggregate-read-full
@@ -40,17 +41,25 @@ enum-known-listed c = search needs
 cast-end : tie.Need-cast-end
 cast-end c = search needs
 
--- src/main.rt:14:48
+-- src/main.rt:14:52
 array-share-prefix-text : tie.Need-array-share-prefix-text
 array-share-prefix-text c = search (listed-room, needs)
 
--- src/main.rt:14:48
+-- src/main.rt:14:52
 slice-aggregate-write-all : tie.Need-slice-aggregate-write-all
 slice-aggregate-write-all c = search (listed-front, needs)
 
--- src/main.rt:14:13
+-- src/main.rt:14:17
 write-all-requires : tie.Need-write-all-requires
 write-all-requires c κs = search needs
+
+-- src/main.rt:15:26
+slice-aggregate-fail : tie.Need-slice-aggregate-fail
+slice-aggregate-fail c = search needs
+
+-- src/main.rt:15:17
+fail-requires : tie.Need-fail-requires
+fail-requires c κs = search needs
 
 enum-told : tie.Need-enum-told
 enum-told c = search needs
@@ -62,6 +71,10 @@ returns c = search needs
 -- src/main.rt:4:1
 returns-2 : tie.Need-returns-2
 returns-2 c = search needs
+
+-- src/main.rt:4:1
+returns-3 : tie.Need-returns-3
+returns-3 c = search needs
 
 pub main-spec : {M : Type 1} → statement M
 main-spec =
@@ -78,6 +91,9 @@ main-spec =
     array-share-prefix-text
     slice-aggregate-write-all
     write-all-requires
+    slice-aggregate-fail
+    fail-requires
     enum-told
     returns
-    returns-2)
+    returns-2
+    returns-3)

@@ -1,5 +1,5 @@
 use borrow.Author.Needs.{needs}
-use Rattle.plan.proofs.Answers.{sheet-inside, sheet-front}
+use Rattle.planner.proofs.Inside.{sheet-inside, sheet-front}
 use Rattle.plan.proofs.plan_jobs.Statement.{statement}
 use Rattle.plan.proofs.plan_jobs.Tie as tie
 use Rattle.plan.proofs.plan_jobs.Reads as reads

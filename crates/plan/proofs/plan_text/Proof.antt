@@ -1,5 +1,5 @@
 use borrow.Author.Needs.{needs}
-use Rattle.plan.proofs.Answers.{jobs-inside, jobs-front}
+use Rattle.jobtext.proofs.Texts.{jobs-inside, jobs-front}
 use Rattle.plan.proofs.plan_text.Statement.{statement}
 use Rattle.plan.proofs.plan_text.Tie as tie
 use Rattle.plan.proofs.plan_text.Reads as reads
