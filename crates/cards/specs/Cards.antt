@@ -1,7 +1,6 @@
 -- Document 01, "Bench cards" and "The listing": what each card says of the definitions, and what the listing prints.
 use Prim.Native.Nat.{ℕ}
-use Prim.Native.Char.{code}
-use Prim.Native.String.{String, [] as []ˢ, _∷_ as _∷ˢ_}
+use Prim.Native.String.{String}
 use mathlib.Core.Path.{_≡_}
 use mathlib.Core.List.{List, [], _∷_, _++_, map}
 use Rattle.sheet.specs.Table.{scan}
@@ -20,6 +19,7 @@ use Rattle.dispatcher.specs.Operations.{ask, step}
 use Rattle.dispatcher.specs.Starts.{sheetAnswer, sheetState, listAnswer, listState}
 use Rattle.planner.specs.Plan.{fitOf, sheetFor, planOutcome}
 use Rattle.planner.specs.Plan as planner
+use Rattle.listing.specs.Words.{codes, lineFeed}
 use Rattle.listing.specs.Listing.{listingOf}
 
 -- a header with n and c, and records of numbers below 256 on core 0
@@ -129,14 +129,10 @@ logL =
 abbrev pub ring : List ℕ → ℕ → List ℕ
 ring ps n = map (at ps) (orderBy Ring (at ps) n)
 
--- the codes of a line's characters, and of lines that each end with a line feed
-abbrev pub codes : String → List ℕ
-codes []ˢ = []
-codes (c ∷ˢ s) = code c ∷ codes s
-
+-- the codes of lines that each end with a line feed
 abbrev pub text : List String → List ℕ
 text [] = []
-text (s ∷ l) = codes s ++ (10 ∷ text l)
+text (s ∷ l) = codes s ++ (lineFeed ∷ text l)
 
 -- "it prints exactly:"
 abbrev pub linesB : List String

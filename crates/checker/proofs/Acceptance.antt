@@ -3,7 +3,7 @@
 use Prim.Native.Nat.{ℕ, zero, suc, _+_, _-_, _*_, _≤_, _<_, zero-le}
 use mathlib.Core.Path.{_≡_, refl, sym, _∙_}
 use mathlib.Core.Logic.{_↔_}
-use mathlib.Core.Bool.{Bool, true, false, _&&_, true≢false, false≢true}
+use mathlib.Core.Bool.{Bool, true, false, true≢false}
 use mathlib.Core.Option.{Option, none, some, Option·some-ne-none}
 use mathlib.Core.List.{List, [], _∷_, _++_}
 use native.Mathlib.Omega.{arith}
@@ -15,7 +15,7 @@ use Rattle.sheet.specs.Table.{Row, _at_, scan, whole, core, Refused}
 use Rattle.sheet.specs.Ranges.{outOf, badPeriod, badBudget}
 use Rattle.sheet.specs.Numbers.{word}
 use Rattle.sheet.specs.Records.{Figures, figures, taskCount, coreCount}
-use Rattle.sheet.proofs.Ranges.{neither, in-range, range-in}
+use Rattle.sheet.proofs.Ranges.{neither, in-range, range-in, both}
 use Rattle.sheet.proofs.Scans.{scan-clear, scan-clears, scan-skip, scan-second, scan-none, whole-clear, core-clear}
 use Rattle.fit.specs.Lists.{numbers, find, Each}
 use Rattle.fit.specs.Priority.{order}
@@ -242,10 +242,6 @@ pub record Framed (s : List ℕ) : Type 0 where
   pub tasks : taskCount s ≤ 64
   pub cores : coreCount s ≤ 8
   pub size : length s ≡ 8 + 10 * taskCount s + 8 * coreCount s
-
-both : (a b : Bool) → (a && b) ≡ true → (a ≡ true) × (b ≡ true)
-both true b e = (refl, e)
-both false b e = absurd (false≢true e)
 
 pub frame-kept : (s : List ℕ) → none ≡ scan (frameRows s) → Framed s
 unfolding frameRows isMarked

@@ -6,7 +6,7 @@ use mathlib.Core.List.{List, [], _∷_, _++_, map}
 use native.Mathlib.Nat.{suc-sub-suc, sub-zero, le-of-lt}
 use native.Mathlib.Numerals.{add-one}
 use native.Mathlib.Omega.{arith}
-use lib.ListN.{length, take, drop, set, replicate, length-take, length-set, drop-of-length-le}
+use lib.ListN.{length, take, drop, set, replicate, length-take, length-set, drop-of-length-le, length-map}
 use lib.Seq.{drop-cons, getD-take, length-take-le, split-at, take-at}
 use mir.Syntax.{w32}
 use mir.Val.{Fits}
@@ -15,11 +15,12 @@ use Rattle.figures.specs.Constructions.{down, downs, dct}
 use Rattle.figures.specs.Meaning.{Rising, DctPeriods, Sound}
 use Rattle.figures.specs.Steps.{Ready}
 use Rattle.figures.specs.Answers.{written}
-use Rattle.figures.proofs.Lists.{length-map, at-map}
+use Rattle.figures.proofs.Lists.{at-map}
 use Rattle.figures.proofs.Sound.{divisor-bound, factors-at, factors-bound, factors-length}
 use Rattle.figures.proofs.Ranges.{periods, pivot-low, pivot-high, period-low, period-high}
 use Rattle.figures.proofs.DctLaws.{dct-sound, dct-periods, down-positive, down-bound, downs-length, downs-positive}
-use Rattle.figures.proofs.Filling.{Filled, filled-start, filled-turn, filled-end, at-padded, padded-length}
+use Rattle.fit.proofs.Lists.{at-padded, padded-length}
+use Rattle.figures.proofs.Filling.{Filled, filled-start, filled-turn, filled-end}
 
 -- the divisors from place i to the pivot are in the array, and d is the first of them
 pub record DownLoop (ps : List ℕ) (c q : ℕ) (array : List ℕ) (d i : ℕ) : Type 0 where
@@ -123,7 +124,7 @@ lower-start ds c = record { first = refl; filled = filled-start _ }
 
 module _ (ds : List ℕ) (c d i : ℕ) (array : List ℕ) (size : length ds ≡ 64) (low : c < 64) (s : LowerLoop ds c d array i) where
   lower-length : length (map (λ x. at ds 0 / x) (take (c + 1) ds)) ≡ c + 1
-  lower-length = length-map _ (take (c + 1) ds) ∙ length-take-le (c + 1) ds (omega arith)
+  lower-length = length-map (take (c + 1) ds) _ ∙ length-take-le (c + 1) ds (omega arith)
 
   pub lower-turn : i ≤ c → LowerLoop ds c d (set array i (d / at ds i)) (i + 1)
   lower-turn h =
@@ -225,7 +226,7 @@ module _ (ps : List ℕ) (c : ℕ) (list : List ℕ) (r : Ready ps c) (e : list 
   unfolding dct padded
   dct-lower low g =
       let whole : take (c + 1) list ≡ ds = ap (take (c + 1)) e ∙ take-at ds _ (c + 1) ds-length in
-      let front : take (c + 1) (dct ps c .factors) ≡ map (λ x. at ds 0 / x) ds = take-at (map (λ x. at ds 0 / x) ds) _ (c + 1) (length-map _ ds ∙ ds-length) in
+      let front : take (c + 1) (dct ps c .factors) ≡ map (λ x. at ds 0 / x) ds = take-at (map (λ x. at ds 0 / x) ds) _ (c + 1) (length-map ds _ ∙ ds-length) in
       g ∙ ap padded (ap₂ (λ x l. map (λ y. x / y) l) dct-divisor whole ∙ sym front)
 
   pub dct-end : (array : List ℕ) → array ≡ padded (dct ps c .factors) → record { pivot = at ps c; divisor = at list 0; factors = array } ≡ written (dct ps c)

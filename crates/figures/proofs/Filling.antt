@@ -1,12 +1,11 @@
 -- An array of 64 places that is filled from the front with a list.
 -- Assumes nothing.
-use Prim.Native.Nat.{ℕ, zero, suc, _+_, _-_, _≤_, _<_}
+use Prim.Native.Nat.{ℕ, suc, _+_, _-_, _≤_, _<_}
 use mathlib.Core.Path.{_≡_, refl, sym, ap, _∙_}
-use mathlib.Core.List.{List, [], _∷_, _++_}
-use native.Mathlib.Nat.{add-sub-of-le}
+use mathlib.Core.List.{List, _∷_, _++_}
 use native.Mathlib.Numerals.{add-one}
 use native.Mathlib.Omega.{arith}
-use lib.ListN.{length, take, set, replicate, length-append, length-replicate, length-set}
+use lib.ListN.{length, take, set, replicate, length-set}
 use lib.Seq.{length-take-le, take-suc, take-all, set-at, append-snoc}
 use Rattle.fit.specs.Lists.{at, padded}
 
@@ -34,22 +33,3 @@ filled-turn l array i v small h e f =
 
 pub filled-end : (l array : List ℕ) (i : ℕ) → length l ≤ i → Filled l i array → array ≡ padded l
 filled-end l array i h f = f .same ∙ ap padded (take-all i l h)
-
--- the zeros are not seen by place
-pub at-padded : (l : List ℕ) (i : ℕ) → at (padded l) i ≡ at l i
-unfolding padded
-at-padded l i = past l (64 - length l) i
-  where
-    zeros : (n i : ℕ) → at (replicate n 0) i ≡ 0
-    zeros zero i = refl
-    zeros (suc n) zero = refl
-    zeros (suc n) (suc i) = zeros n i
-
-    past : (l : List ℕ) (n i : ℕ) → at (l ++ replicate n 0) i ≡ at l i
-    past [] n i = zeros n i
-    past (x ∷ l) n zero = refl
-    past (x ∷ l) n (suc i) = past l n i
-
-pub padded-length : (l : List ℕ) → length l ≤ 64 → length (padded l) ≡ 64
-unfolding padded
-padded-length l h = simp (length-append, length-replicate) (add-sub-of-le h)

@@ -9,10 +9,6 @@ use lib.ListN.{length}
 use Rattle.fit.specs.Lists.{numbers, sum, at}
 use Rattle.fit.specs.Fits.{lastFactor}
 
-pub length-map : (f : ℕ → ℕ) (l : List ℕ) → length (map f l) ≡ length l
-length-map f [] = refl
-length-map f (x ∷ l) = ap suc (length-map f l)
-
 pub at-map : (f : ℕ → ℕ) (l : List ℕ) (i : ℕ) → i < length l → at (map f l) i ≡ f (at l i)
 at-map f [] i h = absurd (omega arith)
 at-map f (x ∷ l) zero h = refl

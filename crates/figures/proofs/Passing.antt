@@ -8,8 +8,9 @@ use mathlib.Core.List.{List, [], _∷_, map}
 use native.Mathlib.Nat.{zero-add, mul-one, le-refl}
 use native.Mathlib.Omega.{arith}
 use borrow.Author.Tests.{le-leb, le-ltb, not-true}
-use lib.ListN.{length}
+use lib.ListN.{length, length-map}
 use lib.Dec.{leb, ltb, eqb}
+use Rattle.sheet.proofs.Ranges.{both}
 use Rattle.fit.specs.Lists.{numbers, sum, Each, at}
 use Rattle.fit.specs.Fits.{stretched, Multiples, lastFactor, load, overloaded}
 use Rattle.fit.proofs.Lists.{each-append}
@@ -18,9 +19,9 @@ use Rattle.figures.specs.Constructions.{Acceleration, leastPower, larges
 use Rattle.figures.specs.Meaning.{Rising, Factors, Sound}
 use Rattle.figures.specs.Passing.{passes, first, eachPivot, trials, rising, taskSet, firstPassing}
 use Rattle.figures.specs.Answers.{written, outcome}
-use Rattle.figures.proofs.Lists.{length-map, at-map, by-place, sum-by-place, last-by-place}
+use Rattle.figures.proofs.Lists.{at-map, by-place, sum-by-place, last-by-place}
 use Rattle.figures.proofs.Powers.{least-unique, least-power}
-use Rattle.figures.proofs.Sound.{both-true, rising-test, factors-at, divisor-bound, factors-bound}
+use Rattle.figures.proofs.Sound.{rising-test, factors-at, divisor-bound, factors-bound}
 use Rattle.figures.proofs.SrLaws.{sr-sound}
 use Rattle.figures.proofs.DctLaws.{dct-sound}
 
@@ -28,7 +29,7 @@ use Rattle.figures.proofs.DctLaws.{dct-sound}
 pub overloaded-by-place : (e M : ℕ → ℕ) (Q D : ℕ) (l : List ℕ) → overloaded e M Q D l ≡ overloaded (at (map e l)) (at (map M l)) Q D (numbers 0 (length (map e l)))
 unfolding overloaded load
 overloaded-by-place e M Q D l =
-    rw (length-map e l)
+    rw (length-map l e)
     (ap₂ (λ s t. ltb (Q * s) t) last (sum-by-place _ (λ i. at (map e l) i * D * (lastFactor M 1 l / at (map M l) i)) 0 l (by-place _ _ 0 l own)
     ∙ ap (λ L. sum (λ i. at (map e l) i * D * (L / at (map M l) i)) (numbers 0 (length l))) last))
   where
@@ -86,7 +87,7 @@ passing-sound ps es a h = by (taskSet ps es) refl h
   where
     by : (t : Bool) → taskSet ps es ≡ t → cond t (first es (trials ps)) none ≡ some a → Rising 1 ps × Sound 2 ps a × (passes es a ≡ true)
     by true q g =
-        let r : Rising 1 ps = rising-test 1 ps (both-true (leb (length ps) 64 && eqb (length ps) (length es)) (rising 1 ps) q .1) in
+        let r : Rising 1 ps = rising-test 1 ps (both (leb (length ps) 64 && eqb (length ps) (length es)) (rising 1 ps) q .1) in
         let by-sr : Each (Sound 2 ps) (eachPivot (sr 2) ps) = each-pivot (Sound 2 ps) (sr 2) ps (λ i k. sr-sound 2 (le-refl 2) ps i r k) in
         let by-dct : Each (Sound 2 ps) (eachPivot dct ps) = each-pivot (Sound 2 ps) dct ps (λ i k. dct-sound ps i r k) in
         let (sound, pass) = first-of (Sound 2 ps) es (trials ps) a (each-append (Sound 2 ps) (eachPivot (sr 2) ps) (eachPivot dct ps) by-sr by-dct) g in
@@ -112,7 +113,7 @@ passing-accepted p e M l a h m =
     }
   where
     inside : (j : ℕ) → j < length l → j < length (map p l)
-    inside j k = omega (arith, length-map p l)
+    inside j k = omega (arith, length-map l p)
 
 -- a task alone passes
 pub alone : (p e : ℕ) → 1 ≤ p → p ≤ 60000 → e ≤ p → firstPassing (p ∷ []) (e ∷ []) ≡ some (record { Q = p; D = 1; factors = 1 ∷ [] })

@@ -12,6 +12,7 @@ use borrow.Author.Tests.{le-leb, lt-leb, leb-true, eq-eqb, ne-eqb, eqb-true}
 use lib.ListN.{length, drop, drop-of-length-le}
 use lib.Seq.{drop-cons}
 use lib.Dec.{leb, eqb}
+use Rattle.sheet.proofs.Ranges.{both}
 use Rattle.fit.specs.Lists.{numbers, at}
 use Rattle.figures.specs.declared.CoreFigures.{CoreFigures}
 use Rattle.figures.specs.declared.Outcome.{Outcome}
@@ -22,12 +23,12 @@ use Rattle.figures.specs.Meaning.{Sound}
 use Rattle.figures.specs.Passing.{passes, first, eachPivot, trials, rising, taskSet, firstPassing}
 use Rattle.figures.specs.Steps.{Ready, Usable, readBack, construction}
 use Rattle.figures.specs.Answers.{written, outcome}
-use Rattle.figures.proofs.Sound.{both-true, divisor-bound, factors-at, factors-bound}
+use Rattle.figures.proofs.Sound.{divisor-bound, factors-at, factors-bound}
 use Rattle.figures.proofs.Ranges.{periods}
 use Rattle.figures.proofs.SrLaws.{sr-sound}
 use Rattle.figures.proofs.DctLaws.{dct-sound}
 use Rattle.figures.proofs.Passing.{outcome-passes, outcome-fails}
-use Rattle.figures.proofs.Filling.{at-padded}
+use Rattle.fit.proofs.Lists.{at-padded}
 
 -- the periods from place i on rise from a
 pub record RisingLoop (ps : List ℕ) (a i : ℕ) : Type 0 where
@@ -70,13 +71,13 @@ module _ (ps es : List ℕ) where
 module _ (ps es : List ℕ) (set : taskSet ps es ≡ true) where
   even : length ps ≡ length es
   unfolding taskSet
-  even = eqb-true (length ps) (length es) (both-true (leb (length ps) 64) _ (both-true (leb (length ps) 64 && eqb (length ps) (length es)) _ set .0) .1)
+  even = eqb-true (length ps) (length es) (both (leb (length ps) 64) _ (both (leb (length ps) 64 && eqb (length ps) (length es)) _ set .0) .1)
 
   pub round-ready : (i : ℕ) → i < length ps → Ready ps i
   unfolding taskSet
   round-ready i h =
-      let (x, y) = both-true (leb (length ps) 64 && eqb (length ps) (length es)) _ set in
-      record { size = leb-true (length ps) 64 (both-true (leb (length ps) 64) _ x .0); order = y; inside = h }
+      let (x, y) = both (leb (length ps) 64 && eqb (length ps) (length es)) _ set in
+      record { size = leb-true (length ps) 64 (both (leb (length ps) 64) _ x .0); order = y; inside = h }
 
   sound : (k : Kind) (i : ℕ) → i < length ps → Sound 2 ps (construction k ps i)
   unfolding construction

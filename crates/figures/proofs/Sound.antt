@@ -2,28 +2,25 @@
 -- Assumes nothing.
 use Prim.Native.Nat.{ℕ, zero, suc, _*_, _≤_, _<_}
 use mathlib.Core.Path.{_≡_, refl, ap, _∙_}
-use mathlib.Core.Bool.{Bool, true, false, _&&_, false≢true}
+use mathlib.Core.Bool.{true, _&&_}
 use mathlib.Core.List.{List, [], _∷_}
 use native.Mathlib.Nat.{mul-comm, mul-left-comm, mul-le-mul-left, mul-lt-mul-of-pos-left, lt-of-mul-lt-mul-left, le-trans, lt-of-lt-of-le, le-refl}
 use native.Mathlib.Omega.{arith}
 use borrow.Author.Tests.{leb-true}
 use lib.ListN.{length}
 use lib.Dec.{leb}
+use Rattle.sheet.proofs.Ranges.{both}
 use Rattle.fit.specs.Lists.{at}
 use Rattle.figures.specs.Constructions.{Acceleration}
 use Rattle.figures.specs.Meaning.{Rising, Factors, Sound}
 use Rattle.figures.specs.Passing.{rising}
 
-pub both-true : (s t : Bool) → (s && t) ≡ true → (s ≡ true) × (t ≡ true)
-both-true true t h = (refl, h)
-both-true false t h = absurd (false≢true h)
-
 pub rising-test : (a : ℕ) (ps : List ℕ) → rising a ps ≡ true → Rising a ps
 unfolding rising Rising
 rising-test a [] h = tt
 rising-test a (p ∷ ps) h =
-    let (x, y) = both-true (leb a p && leb p 60000) (rising p ps) h in
-    let (u, v) = both-true (leb a p) (leb p 60000) x in
+    let (x, y) = both (leb a p && leb p 60000) (rising p ps) h in
+    let (u, v) = both (leb a p) (leb p 60000) x in
     (leb-true a p u, leb-true p 60000 v, rising-test p ps y)
 
 -- no period is below one before it

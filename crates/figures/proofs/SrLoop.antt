@@ -5,7 +5,7 @@ use mathlib.Core.Path.{_≡_, sym, ap₂, _∙_}
 use mathlib.Core.List.{List}
 use native.Mathlib.Nat.{pow-zero, mul-le-mul, mul-le-mul-right, le-trans, lt-of-lt-of-le, le-of-lt}
 use native.Mathlib.Omega.{arith}
-use lib.ListN.{length, set, replicate}
+use lib.ListN.{length, set, replicate, length-map}
 use mir.Syntax.{w32, w64}
 use mir.Val.{Fits}
 use Rattle.fit.specs.Lists.{at}
@@ -13,7 +13,7 @@ use Rattle.figures.specs.Constructions.{Power, leastPower, largestPower,
 use Rattle.figures.specs.Meaning.{Rising, Multiplier, Sound}
 use Rattle.figures.specs.Steps.{Ready}
 use Rattle.figures.specs.Answers.{written}
-use Rattle.figures.proofs.Lists.{length-map, at-map}
+use Rattle.figures.proofs.Lists.{at-map}
 use Rattle.figures.proofs.Sound.{rising-pair, divisor-bound, factors-bound}
 use Rattle.figures.proofs.Ranges.{periods, period-high}
 use Rattle.figures.proofs.SrLaws.{sr-sound, sr-multiplier}
@@ -39,7 +39,7 @@ module _ (b : ℕ) (ps : List ℕ) (c : ℕ) (two : 2 ≤ b) (three : b ≤ 3) (
 
   factors-length : length (sr b ps c .factors) ≡ length ps
   unfolding sr
-  factors-length = length-map _ ps
+  factors-length = length-map ps _
 
   pub sr-start : (q x d : ℕ) → q ≡ at ps c → x ≡ at ps 0 → d ≡ leastPower b q x → SrLoop b ps c q d (replicate 64 0) 1 0
   unfolding sr Power

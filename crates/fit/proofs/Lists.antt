@@ -4,13 +4,13 @@ use Prim.Native.Nat.{ℕ, zero, suc, _+_, _-_, _≤_, _<_, zero-le, suc-le-suc}
 use mathlib.Core.Path.{_≡_, refl, sym, ap, subst}
 use mathlib.Core.Bool.{Bool, true, false, cond}
 use mathlib.Core.List.{List, [], _∷_, _++_}
-use native.Mathlib.Nat.{zero-add, add-zero}
+use native.Mathlib.Nat.{zero-add, add-zero, add-sub-of-le}
 use native.Mathlib.Omega.{arith}
 use borrow.Author.Tests.{eqb-true}
-use lib.ListN.{length, take, drop, getD, replicate, length-take, length-drop}
+use lib.ListN.{length, take, drop, getD, replicate, length-append, length-take, length-drop, length-replicate}
 use lib.Seq.{take-all}
 use lib.Dec.{eqb}
-use Rattle.fit.specs.Lists.{numbers, sum, select, occurs, Each, EachPair}
+use Rattle.fit.specs.Lists.{at, padded, numbers, sum, select, occurs, Each, EachPair}
 
 -- a part from a place on is what is left from there, and a front has as many as it should
 pub part : (s : List ℕ) (a : ℕ) → take (length s - a) (drop a s) ≡ drop a s
@@ -24,6 +24,20 @@ pub zeros : (n i : ℕ) → _≡_ {A = ℕ} (getD (replicate n 0) i 0) 0
 zeros zero i = refl
 zeros (suc n) zero = refl
 zeros (suc n) (suc i) = zeros n i
+
+-- a list with zeros past it: they are not seen by place
+pub at-padded : (l : List ℕ) (i : ℕ) → at (padded l) i ≡ at l i
+unfolding padded
+at-padded l i = past l (64 - length l) i
+  where
+    past : (l : List ℕ) (n i : ℕ) → at (l ++ replicate n 0) i ≡ at l i
+    past [] n i = zeros n i
+    past (x ∷ l) n zero = refl
+    past (x ∷ l) n (suc i) = past l n i
+
+pub padded-length : (l : List ℕ) → length l ≤ 64 → length (padded l) ≡ 64
+unfolding padded
+padded-length l h = simp (length-append, length-replicate) (add-sub-of-le h)
 
 -- what follows for one from one property, or from two, follows for each of a list
 pub each-of : {A : Type 0} {P Q : A → Type 0} (l : List A) → ((x : A) → P x → Q x) → Each P l → Each Q l

@@ -1,10 +1,13 @@
 -- Document 01, "The listing": its words, each with the space behind it, as ASCII codes.
 use Prim.Native.Nat.{ℕ}
+use Prim.Native.Char.{code}
+use Prim.Native.String.{String, [] as []ˢ, _∷_ as _∷ˢ_}
 use mathlib.Core.List.{List, [], _∷_}
 
--- the mark, "TSH"
-abbrev pub mark : List ℕ
-mark = 84 ∷ 83 ∷ 72 ∷ 32 ∷ []
+-- the codes of a text's characters
+abbrev pub codes : String → List ℕ
+codes []ˢ = []
+codes (c ∷ˢ s) = code c ∷ codes s
 
 abbrev pub space : ℕ
 space = 32
@@ -12,41 +15,44 @@ space = 32
 abbrev pub lineFeed : ℕ
 lineFeed = 10
 
+abbrev pub mark : List ℕ
+mark = codes "TSH "
+
 abbrev pub tasks : List ℕ
-tasks = 116 ∷ 97 ∷ 115 ∷ 107 ∷ 115 ∷ 32 ∷ []
+tasks = codes "tasks "
 
 abbrev pub cores : List ℕ
-cores = 99 ∷ 111 ∷ 114 ∷ 101 ∷ 115 ∷ 32 ∷ []
+cores = codes "cores "
 
 abbrev pub task : List ℕ
-task = 116 ∷ 97 ∷ 115 ∷ 107 ∷ 32 ∷ []
+task = codes "task "
 
 abbrev pub core : List ℕ
-core = 99 ∷ 111 ∷ 114 ∷ 101 ∷ 32 ∷ []
+core = codes "core "
 
 abbrev pub period : List ℕ
-period = 112 ∷ 101 ∷ 114 ∷ 105 ∷ 111 ∷ 100 ∷ 32 ∷ []
+period = codes "period "
 
 abbrev pub budget : List ℕ
-budget = 98 ∷ 117 ∷ 100 ∷ 103 ∷ 101 ∷ 116 ∷ 32 ∷ []
+budget = codes "budget "
 
 abbrev pub factor : List ℕ
-factor = 102 ∷ 97 ∷ 99 ∷ 116 ∷ 111 ∷ 114 ∷ 32 ∷ []
+factor = codes "factor "
 
 abbrev pub within : List ℕ
-within = 119 ∷ 105 ∷ 116 ∷ 104 ∷ 105 ∷ 110 ∷ 32 ∷ []
+within = codes "within "
 
 abbrev pub pivot : List ℕ
-pivot = 112 ∷ 105 ∷ 118 ∷ 111 ∷ 116 ∷ 32 ∷ []
+pivot = codes "pivot "
 
 abbrev pub divisor : List ℕ
-divisor = 100 ∷ 105 ∷ 118 ∷ 105 ∷ 115 ∷ 111 ∷ 114 ∷ 32 ∷ []
+divisor = codes "divisor "
 
 abbrev pub load : List ℕ
-load = 108 ∷ 111 ∷ 97 ∷ 100 ∷ 32 ∷ []
+load = codes "load "
 
 abbrev pub refused : List ℕ
-refused = 114 ∷ 101 ∷ 102 ∷ 117 ∷ 115 ∷ 101 ∷ 100 ∷ 32 ∷ []
+refused = codes "refused "
 
 abbrev pub place : List ℕ
-place = 112 ∷ 108 ∷ 97 ∷ 99 ∷ 101 ∷ 32 ∷ []
+place = codes "place "

@@ -1,6 +1,6 @@
 -- The checker accepts the sheet of a plan.
 -- Assumes nothing.
-use Prim.Native.Nat.{ℕ, suc, _+_, _*_, _≤_, _<_}
+use Prim.Native.Nat.{ℕ, _+_, _*_, _≤_, _<_}
 use mathlib.Core.Path.{_≡_, refl, sym, ap, subst, _∙_}
 use mathlib.Core.Bool.{true, false, false≢true}
 use mathlib.Core.Option.{Option, none, some}
@@ -8,7 +8,7 @@ use mathlib.Core.List.{List, [], _∷_, _++_, map, append-nil}
 use native.Mathlib.Nat.{le-trans}
 use native.Mathlib.Omega.{arith}
 use borrow.Author.Tests.{ltb-false, eq-eqb, ne-eqb}
-use lib.ListN.{length, drop, getD, length-append}
+use lib.ListN.{length, drop, getD, length-append, length-map}
 use lib.Seq.{drop-at, getD-append-add}
 use lib.Dec.{eqb}
 use Rattle.sheet.specs.Numbers.{word, long}
@@ -38,10 +38,6 @@ map-ext : (f g : ℕ → ℕ) (l : List ℕ) → Each (λ i. f i ≡ g i) l → 
 unfolding Each
 map-ext f g [] h = refl
 map-ext f g (i ∷ l) h = rw (h .0, map-ext f g l (h .1))
-
-length-map : (f : ℕ → ℕ) (l : List ℕ) → length (map f l) ≡ length l
-length-map f [] = refl
-length-map f (i ∷ l) = ap suc (length-map f l)
 
 -- what stands at the place of each task is the whole list
 map-places : (fs l : List ℕ) → EachPair (λ i j. i ≡ j → ⊥) l → length fs ≡ length l → map (λ i. at fs (placeOf (λ z. eqb z i) l)) l ≡ fs
@@ -104,7 +100,7 @@ module _ (p e : ℕ → ℕ) (n limit : ℕ) (a : Assignment) (small : limit ≤
         once = rising-differ p (coreSet p n (a .core) k) (order-rising p (at (a .core)) k n)
 
         size : length (own .0 .factors) ≡ length (coreSet p n (a .core) k)
-        size = factors-length _ _ 1 (map p (on k)) _ (passing-sound (map p (on k)) (map e (on k)) (own .0) own-passing .1 .factors) ∙ length-map p (on k)
+        size = factors-length _ _ 1 (map p (on k)) _ (passing-sound (map p (on k)) (map e (on k)) (own .0) own-passing .1 .factors) ∙ length-map (on k) p
 
     fits : (p′ e′ M′ : ℕ → ℕ) → Each (λ i. (p′ i ≡ p i) × (e′ i ≡ e i) × (M′ i ≡ M i)) (on k) → Accepted p′ e′ M′ (Q k) (D k) (on k)
     unfolding Q D

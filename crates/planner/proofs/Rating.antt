@@ -1,25 +1,26 @@
 -- The figures of all cores, core by core: a core's factors are spread over the numbers of its tasks.
 -- Assumes nothing.
 use Prim.Native.Nat.{ℕ, suc, _+_, _-_, _≤_, _<_}
-use mathlib.Core.Path.{_≡_, refl, sym, ap, _∙_}
+use mathlib.Core.Path.{_≡_, refl, ap, _∙_}
 use mathlib.Core.Bool.{cond}
 use mathlib.Core.Option.{Option, none, some}
-use mathlib.Core.List.{List, [], _∷_, _++_}
+use mathlib.Core.List.{List, [], _∷_}
 use native.Mathlib.Nat.{add-zero, zero-add}
-use native.Mathlib.Decide.{ℕ-discrete, decLt}
+use native.Mathlib.Decide.{ℕ-discrete}
 use native.Mathlib.Omega.{arith}
 use borrow.Author.Tests.{eq-eqb, ne-eqb}
 use lib.Arith.{lt-of-le-ne}
 use lib.Dec.{eqb}
-use lib.ListN.{length, take, set, replicate, length-set, List·getD-append, List·getD-eq-default, getD-replicate, length-replicate}
-use lib.Seq.{getD-set-same, getD-set-other, getD-append-add}
+use lib.ListN.{length, take, set, length-set}
+use lib.Seq.{getD-set-same, getD-set-other}
 use Rattle.fit.specs.declared.Order.{Order}
-use Rattle.fit.specs.Lists.{select, occurs, Each, EachPair, at, padded, placeOf}
+use Rattle.fit.specs.Lists.{select, occurs, Each, EachPair, at, placeOf}
 use Rattle.fit.specs.Answers.{Ordered}
 use Rattle.fit.proofs.Lists.{each-of}
 use Rattle.fit.proofs.Priority.{order-members, order-rising, order-holds}
 use Rattle.fit.proofs.Selecting.{rising-differ}
 use Rattle.jobs.specs.Jobs.{jobCount, jobPeriod, jobBudget}
+use Rattle.fit.proofs.Lists.{at-padded}
 use Rattle.figures.specs.declared.Outcome.{Outcome}
 use Rattle.figures.specs.Constructions.{Acceleration}
 use Rattle.figures.specs.Answers.{written, outcome}
@@ -55,27 +56,6 @@ spread-at own (j ∷ l) m factors i q d o = by (ℕ-discrete j i) (spread-at own
         rw (ne-eqb j i e, ← place) (r later)
 
 -- a core's outcome holds its figures, and zeros where there are none
-padded-at : (l : List ℕ) (m : ℕ) → at (padded l) m ≡ at l m
-unfolding padded
-padded-at l m = by (decLt m (length l))
-  where
-    zeros : (k i : ℕ) → at (replicate k 0) i ≡ 0
-    zeros k i = in-or-out (decLt i k)
-      where
-        in-or-out : Dec (i < k) → at (replicate k 0) i ≡ 0
-        in-or-out (yes h) = getD-replicate k i 0 0 h
-        in-or-out (no h) =
-            let far : length (replicate {A = ℕ} k 0) ≤ i = rw length-replicate (omega (arith, h)) in
-            List·getD-eq-default (replicate k 0) 0 far
-
-    by : Dec (m < length l) → at (l ++ replicate (64 - length l) 0) m ≡ at l m
-    by (yes h) = List·getD-append l (replicate (64 - length l) 0) 0 m h
-    by (no h) =
-        let far : length l ≤ m = omega (arith, h) in
-        let e : m ≡ length l + (m - length l) = omega arith in
-        ap (λ (i : ℕ). at (l ++ replicate (64 - length l) 0) i) e ∙ getD-append-add l (replicate (64 - length l) 0) (m - length l) 0
-        ∙ zeros (64 - length l) (m - length l) ∙ sym (List·getD-eq-default l 0 far)
-
 outcome-figures : (x : Option Acceleration) → outcome x .figures ≡ written (orZeros x)
 unfolding outcome orZeros
 outcome-figures none = refl
@@ -129,7 +109,7 @@ module _ (l order core : List ℕ) (k : ℕ) (pivots divisors factors : List ℕ
       by i n b (yes z) =
           rw (z, tasks)
           (spread-at (r .figures .factors) (coreSet (jobPeriod l) (jobCount l) core k) 0 factors i (omega (arith, n, pr .few, d .factor-size)) (rising-differ (jobPeriod l) _ (order-rising (jobPeriod l) (at core) k (jobCount l))) (order-holds (jobPeriod l) (at core) k (jobCount l) i n z)
-          ∙ rw zero-add (ap (λ t. at (t .factors) (placeOf (λ z. eqb z i) (coreSet (jobPeriod l) (jobCount l) core k))) own-figures ∙ padded-at _ _))
+          ∙ rw zero-add (ap (λ t. at (t .factors) (placeOf (λ z. eqb z i) (coreSet (jobPeriod l) (jobCount l) core k))) own-figures ∙ at-padded _ _))
       by i n b (no z) =
           rw tasks
           (spread-other (r .figures .factors) (coreSet (jobPeriod l) (jobCount l) core k) 0 factors i (each-of _ (λ j m x. z (ap (at core) x ∙ m .1)) (order-members (jobPeriod l) (at core) k (jobCount l)))
