@@ -13,13 +13,12 @@ use lib.ListN.{length, getD, drop}
 use lib.Dec.{ltb, eqb}
 use Rattle.sheet.specs.Table.{Row, _at_, scan, whole, core, Refused}
 use Rattle.sheet.specs.Ranges.{outOf, badPeriod, badBudget}
-use Rattle.sheet.specs.Numbers.{word}
 use Rattle.sheet.specs.Records.{Figures, figures, taskCount, coreCount}
 use Rattle.sheet.proofs.Ranges.{neither, in-range, range-in, both}
 use Rattle.sheet.proofs.Scans.{scan-clear, scan-clears, scan-skip, scan-second, scan-none, whole-clear, core-clear}
 use Rattle.fit.specs.Lists.{numbers, find, Each}
 use Rattle.fit.specs.Priority.{order}
-use Rattle.fit.specs.Fits.{stretched, overloaded, Multiples}
+use Rattle.fit.specs.Fits.{stretched, overloaded}
 use Rattle.fit.proofs.Finds.{find-none, none-find, find-some, findSome-none, none-findSome}
 use Rattle.fit.proofs.Lists.{each-of, each-both}
 use Rattle.fit.proofs.Priority.{order-members, order-count, order-rising}
@@ -27,7 +26,7 @@ use Rattle.fit.proofs.Levels.{chain-multiples, multiples-chain, multiples-pairs
 use Rattle.checker.specs.Tests.{isMarked, taskSpares, coreSpares, isSet, badCore, isOn, isNone, bare, badFactor, badPivot, stretchedAt, orderOn, chainBreakOn, overloadedOn}
 use Rattle.checker.specs.Rules.{offset, frameRows, spareRows, taskRows, coreRows, fitRows, recordRows, rules}
 use Rattle.checker.specs.Verdict.{accepted, outcome, verdict}
-use Rattle.checker.specs.Accepted.{LoadAtMostOne, Fitting, Acceptable, Schedulable, CoreOf}
+use Rattle.checker.specs.Accepted.{LoadAtMostOne, Framed, Spared, TasksInRange, CoresInRange, CoresFit, Fitting, Acceptable, Schedulable, CoreOf}
 
 -- a table is clear exactly when each of its rows is
 row-clear : (k : ℕ) (o : Option ℕ) (rows : List Row) → o ≡ none → scan rows ≡ none → scan (k at o ∷ rows) ≡ none
@@ -65,12 +64,7 @@ module _ (q : ℕ → Bool) (n : ℕ) where
   keeps f = none-find q 0 n (λ i a b. f i (rw zero-add at b))
 
 -- rules 7 to 9
-pub record Tasks (f : Figures) : Type 0 where
-  pub period : (i : ℕ) → i < f .tasks → (1 ≤ f .period i) × (f .period i ≤ 60000)
-  pub budget : (i : ℕ) → i < f .tasks → (1 ≤ f .budget i) × (f .budget i ≤ f .period i)
-  pub core : (i : ℕ) → i < f .tasks → f .core i < f .cores
-
-tasks-kept : (f : Figures) → none ≡ scan (taskRows f) → Tasks f
+tasks-kept : (f : Figures) → none ≡ scan (taskRows f) → TasksInRange f
 unfolding taskRows badPeriod badBudget badCore
 tasks-kept f e =
     let a = scan-clear 7 _ _ e in
@@ -82,7 +76,7 @@ tasks-kept f e =
       core = λ i h. leb-false _ _ (kept (badCore (f .cores) (f .core)) _ (c .0) i h);
     }
 
-tasks-keep : (f : Figures) → Tasks f → scan (taskRows f) ≡ none
+tasks-keep : (f : Figures) → TasksInRange f → scan (taskRows f) ≡ none
 unfolding taskRows badPeriod badBudget badCore
 tasks-keep f t =
     row-clear 7 _ _ (keeps (badPeriod (f .period)) _ (λ i h. range-in 60000 _ (t .period i h .0) (t .period i h .1)))
@@ -109,14 +103,7 @@ has-task n on k i h e = by (find (isOn on k) (numbers 0 n)) refl
     by (some j) t = refl
 
 -- rules 10 to 12
-pub record Cores (f : Figures) : Type 0 where
-  pub not-bare : (k : ℕ) → k < f .cores → (i : ℕ) × (i < f .tasks) × (f .core i ≡ k)
-  pub factor : (i : ℕ) → i < f .tasks → (1 ≤ f .factor i) × (f .factor i ≤ 120000)
-  pub pivot : (k : ℕ) → k < f .cores → (1 ≤ f .pivot k) × (f .pivot k ≤ 60000)
-  pub divisor : (k : ℕ) → k < f .cores → (1 ≤ f .divisor k) × (f .divisor k ≤ 120000)
-  pub accelerated : (i : ℕ) → i < f .tasks → f .pivot (f .core i) * f .factor i ≤ f .period i * f .divisor (f .core i)
-
-pub cores-kept : (f : Figures) → none ≡ scan (coreRows f) → Cores f
+pub cores-kept : (f : Figures) → none ≡ scan (coreRows f) → CoresInRange f
 unfolding coreRows badFactor badPivot stretchedAt stretched
 cores-kept f e =
     let a = scan-clear 10 _ _ e in
@@ -132,7 +119,7 @@ cores-kept f e =
       accelerated = λ i h. ltb-false _ _ (kept (stretchedAt f) _ (d .0) i h);
     }
 
-cores-keep : (f : Figures) → Cores f → scan (coreRows f) ≡ none
+cores-keep : (f : Figures) → CoresInRange f → scan (coreRows f) ≡ none
 unfolding coreRows badFactor badPivot stretchedAt stretched
 cores-keep f t =
     row-clear 10 _ _ (core-none _ (keeps (bare (f .tasks) (f .core)) _ (λ k h. has-task _ _ k (t .not-bare k h .0) (t .not-bare k h .1) (t .not-bare k h .2))))
@@ -141,11 +128,7 @@ cores-keep f t =
     (row-clear 12 _ _ (keeps (stretchedAt f) _ (λ i h. le-ltb _ _ (t .accelerated i h))) end-clear)))
 
 -- rules 13 and 14
-pub record Fits (f : Figures) : Type 0 where
-  pub simply-periodic : (k : ℕ) → k < f .cores → Multiples (f .factor) 1 (orderOn f k)
-  pub load : (k : ℕ) → k < f .cores → LoadAtMostOne f k
-
-fits-kept : (f : Figures) → none ≡ scan (fitRows f) → Fits f
+fits-kept : (f : Figures) → none ≡ scan (fitRows f) → CoresFit f
 unfolding fitRows chainBreakOn overloadedOn overloaded LoadAtMostOne
 fits-kept f e =
     let a = scan-clear 13 _ _ e in
@@ -155,7 +138,7 @@ fits-kept f e =
       load = λ k h. ltb-false _ _ (kept (overloadedOn f) _ (core-clear _ (b .0)) k h);
     }
 
-fits-keep : (f : Figures) → Fits f → scan (fitRows f) ≡ none
+fits-keep : (f : Figures) → CoresFit f → scan (fitRows f) ≡ none
 unfolding fitRows chainBreakOn overloadedOn overloaded LoadAtMostOne
 fits-keep f t =
     row-clear 13 _ _ (none-findSome (chainBreakOn f) 0 (f .cores) (λ k a h. multiples-chain _ 1 _ (t .simply-periodic k (rw zero-add at h))))
@@ -236,13 +219,6 @@ spared-cores r a (suc c) f =
         rw z at (f (suc k) (omega arith))
 
 -- rules 1 to 5
-pub record Framed (s : List ℕ) : Type 0 where
-  pub mark : (getD s 0 0 ≡ 0x54) × (getD s 1 0 ≡ 0x53) × (getD s 2 0 ≡ 0x48)
-  pub version : word s 3 ≡ 1
-  pub tasks : taskCount s ≤ 64
-  pub cores : coreCount s ≤ 8
-  pub size : length s ≡ 8 + 10 * taskCount s + 8 * coreCount s
-
 pub frame-kept : (s : List ℕ) → none ≡ scan (frameRows s) → Framed s
 unfolding frameRows isMarked
 frame-kept s e =
@@ -296,34 +272,29 @@ from-table s e =
     let x = scan-clear 6 (find (isSet s) (7 ∷ [])) _ (b .0) in
     let y = scan-clear 6 _ _ (x .1) in
     let z = scan-clear 6 _ _ (y .1) in
-    let frame = frame-kept s (a .0) in
-    let tasks = tasks-kept f (d .0) in
-    let cores = cores-kept f (g .0) in
-    let fits = fits-kept f (g .1) in
     record {
-      mark = frame .mark;
-      version = frame .version;
-      tasks = frame .tasks;
-      cores = frame .cores;
-      size = frame .size;
-      spare-header = is-zero s 7 (step-none (isSet s) 7 [] (x .0) .0);
-      spare-tasks = λ i h. rw (zero-add (10 * i)) at (tasks-spared (drop 8 s) 0 (taskCount s) (offset-clear _ (y .0)) i h);
-      spare-cores = cores-spared (drop 8 s) (10 * taskCount s) (coreCount s) (offset-clear _ (z .0));
-      fitting = record { period = tasks .period; budget = tasks .budget; core = tasks .core; not-bare = cores .not-bare; factor = cores .factor; pivot = cores .pivot; divisor = cores .divisor; accelerated = cores .accelerated; simply-periodic = fits .simply-periodic; load = fits .load };
+      frame = frame-kept s (a .0);
+      spares =
+          record {
+            header = is-zero s 7 (step-none (isSet s) 7 [] (x .0) .0);
+            tasks = λ i h. rw (zero-add (10 * i)) at (tasks-spared (drop 8 s) 0 (taskCount s) (offset-clear _ (y .0)) i h);
+            cores = cores-spared (drop 8 s) (10 * taskCount s) (coreCount s) (offset-clear _ (z .0));
+          };
+      fitting = record { tasks = tasks-kept f (d .0); cores = cores-kept f (g .0); fits = fits-kept f (g .1) };
     }
 
 to-table : (s : List ℕ) → Acceptable s → scan (rules s) ≡ none
 unfolding rules spareRows recordRows find
 to-table s t =
     let g : Fitting (figures s) = t .fitting in
-    both-clear (frameRows s) _ (frame-keep s (record { mark = t .mark; version = t .version; tasks = t .tasks; cores = t .cores; size = t .size }))
+    let b : Spared s = t .spares in
+    both-clear (frameRows s) _ (frame-keep s (t .frame))
     (both-clear (spareRows (taskCount s) (coreCount s) s (drop 8 s)) _
-    (row-clear 6 _ _ (none-step (isSet s) 7 [] (not-set s 7 (t .spare-header)) refl)
-    (row-clear 6 _ _ (offset-none _ (spared-tasks (drop 8 s) 0 (taskCount s) (λ i h. rw (zero-add (10 * i)) (t .spare-tasks i h))))
-    (row-clear 6 _ _ (offset-none _ (spared-cores (drop 8 s) (10 * taskCount s) (coreCount s) (t .spare-cores))) end-clear)))
-    (both-clear (taskRows (figures s)) _ (tasks-keep (figures s) (record { period = g .period; budget = g .budget; core = g .core }))
-    (both-clear (coreRows (figures s)) _ (cores-keep (figures s) (record { not-bare = g .not-bare; factor = g .factor; pivot = g .pivot; divisor = g .divisor; accelerated = g .accelerated }))
-    (fits-keep (figures s) (record { simply-periodic = g .simply-periodic; load = g .load })))))
+    (row-clear 6 _ _ (none-step (isSet s) 7 [] (not-set s 7 (b .header)) refl)
+    (row-clear 6 _ _ (offset-none _ (spared-tasks (drop 8 s) 0 (taskCount s) (λ i h. rw (zero-add (10 * i)) (b .tasks i h))))
+    (row-clear 6 _ _ (offset-none _ (spared-cores (drop 8 s) (10 * taskCount s) (coreCount s) (b .cores))) end-clear)))
+    (both-clear (taskRows (figures s)) _ (tasks-keep (figures s) (g .tasks))
+    (both-clear (coreRows (figures s)) _ (cores-keep (figures s) (g .cores)) (fits-keep (figures s) (g .fits)))))
 
 -- The verdict is "accepted with n and c" exactly when the sheet is acceptable and n and c are its counts.
 pub accepted-exactly : (s : List ℕ) (n c : ℕ) → (verdict s ≡ accepted n c) ↔ (Acceptable s × (n ≡ taskCount s) × (c ≡ coreCount s))
@@ -338,20 +309,20 @@ unfolding orderOn LoadAtMostOne
 schedulable f k n h g =
     let l : List ℕ = order (f .period) (f .core) k (f .tasks) in
     let members : Each (λ i. (i < f .tasks) × (f .core i ≡ k)) l = order-members (f .period) (f .core) k (f .tasks) in
-    let positive : Each (λ i. 0 < f .factor i) l = each-of l (λ i m. g .factor i (m .0) .0) members in
-    let fast : Each (λ i. f .pivot k * f .factor i ≤ f .period i * f .divisor k) l = each-of l (λ i m. rw (m .1) at (g .accelerated i (m .0))) members in
+    let positive : Each (λ i. 0 < f .factor i) l = each-of l (λ i m. g .cores .factor i (m .0) .0) members in
+    let fast : Each (λ i. f .pivot k * f .factor i ≤ f .period i * f .divisor k) l = each-of l (λ i m. rw (m .1) at (g .cores .accelerated i (m .0))) members in
     record {
       count = le-trans (order-count (f .period) (f .core) k (f .tasks)) n;
       number = each-of l (λ i m. le-trans (m .0) n) members;
       order = order-rising (f .period) (f .core) k (f .tasks);
-      period = each-of l (λ i m. g .period i (m .0)) members;
-      budget = each-of l (λ i m. g .budget i (m .0)) members;
+      period = each-of l (λ i m. g .tasks .period i (m .0)) members;
+      budget = each-of l (λ i m. g .tasks .budget i (m .0)) members;
       factor = positive;
-      divisor = g .divisor k h .0;
+      divisor = g .cores .divisor k h .0;
       accelerated = fast;
-      multiples = multiples-pairs (f .factor) 1 l (g .simply-periodic k h);
-      level = level-load (f .budget) (f .factor) (f .divisor k) (f .pivot k) l (g .simply-periodic k h) positive (g .load k h);
-      bounds = each-both l (λ i a b. (a, b)) (budget-within (f .budget) (f .factor) (f .divisor k) (f .pivot k) l (g .simply-periodic k h) positive (g .load k h) (g .divisor k h .0)) (each-of l (λ i a. within-period (f .pivot k) (f .divisor k) (f .factor i) (f .period i) a) fast);
+      multiples = multiples-pairs (f .factor) 1 l (g .fits .simply-periodic k h);
+      level = level-load (f .budget) (f .factor) (f .divisor k) (f .pivot k) l (g .fits .simply-periodic k h) positive (g .fits .load k h);
+      bounds = each-both l (λ i a b. (a, b)) (budget-within (f .budget) (f .factor) (f .divisor k) (f .pivot k) l (g .fits .simply-periodic k h) positive (g .fits .load k h) (g .cores .divisor k h .0)) (each-of l (λ i a. within-period (f .pivot k) (f .divisor k) (f .factor i) (f .period i) a) fast);
     }
 
 -- The acceptance contract: all that a dispatcher uses of an accepted sheet.
@@ -359,4 +330,4 @@ pub core-of : (s : List ℕ) (n c k : ℕ) → verdict s ≡ accepted n c → k 
 core-of s n c k e h =
     let w = accepted-exactly s n c .0 e in
     let q : k < coreCount s = rw (w .2) at h in
-    record { tasks = w .0 .tasks; size = w .0 .size; core = q; schedulable = schedulable (figures s) k (w .0 .tasks) q (w .0 .fitting) }
+    record { tasks = w .0 .frame .tasks; size = w .0 .frame .size; core = q; schedulable = schedulable (figures s) k (w .0 .frame .tasks) q (w .0 .fitting) }

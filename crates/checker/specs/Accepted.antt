@@ -17,29 +17,49 @@ LoadAtMostOne f k =
     load (f .budget) (f .factor) (f .divisor k) (lastFactor (f .factor) 1 (orderOn f k)) (orderOn f k)
     ≤ f .pivot k * lastFactor (f .factor) 1 (orderOn f k)
 
--- the figures are in range, every core has a task, and every core fits
-pub record Fitting (f : Figures) : Type 0 where
-  pub period : (i : ℕ) → i < f .tasks → (1 ≤ f .period i) × (f .period i ≤ 60000)
-  pub budget : (i : ℕ) → i < f .tasks → (1 ≤ f .budget i) × (f .budget i ≤ f .period i)
-  pub core : (i : ℕ) → i < f .tasks → f .core i < f .cores
-  pub not-bare : (k : ℕ) → k < f .cores → (i : ℕ) × (i < f .tasks) × (f .core i ≡ k)
-  pub factor : (i : ℕ) → i < f .tasks → (1 ≤ f .factor i) × (f .factor i ≤ 120000)
-  pub pivot : (k : ℕ) → k < f .cores → (1 ≤ f .pivot k) × (f .pivot k ≤ 60000)
-  pub divisor : (k : ℕ) → k < f .cores → (1 ≤ f .divisor k) × (f .divisor k ≤ 120000)
-  pub accelerated : (i : ℕ) → i < f .tasks → f .pivot (f .core i) * f .factor i ≤ f .period i * f .divisor (f .core i)
-  pub simply-periodic : (k : ℕ) → k < f .cores → Multiples (f .factor) 1 (orderOn f k)
-  pub load : (k : ℕ) → k < f .cores → LoadAtMostOne f k
-
--- the sheet has its form and its figures fit
-pub record Acceptable (s : List ℕ) : Type 0 where
+-- rules 1 to 5: mark, version, counts and length
+pub record Framed (s : List ℕ) : Type 0 where
   pub mark : (getD s 0 0 ≡ 0x54) × (getD s 1 0 ≡ 0x53) × (getD s 2 0 ≡ 0x48)
   pub version : word s 3 ≡ 1
   pub tasks : taskCount s ≤ 64
   pub cores : coreCount s ≤ 8
   pub size : length s ≡ 8 + 10 * taskCount s + 8 * coreCount s
-  pub spare-header : getD s 7 0 ≡ 0
-  pub spare-tasks : (i : ℕ) → i < taskCount s → getD (drop 8 s) (10 * i + 5) 0 ≡ 0
-  pub spare-cores : (k : ℕ) → k < coreCount s → (getD (drop 8 s) (10 * taskCount s + 8 * k + 2) 0 ≡ 0) × (getD (drop 8 s) (10 * taskCount s + 8 * k + 3) 0 ≡ 0)
+
+-- rule 6: every spare byte is zero
+pub record Spared (s : List ℕ) : Type 0 where
+  pub header : getD s 7 0 ≡ 0
+  pub tasks : (i : ℕ) → i < taskCount s → getD (drop 8 s) (10 * i + 5) 0 ≡ 0
+  pub cores : (k : ℕ) → k < coreCount s → (getD (drop 8 s) (10 * taskCount s + 8 * k + 2) 0 ≡ 0) × (getD (drop 8 s) (10 * taskCount s + 8 * k + 3) 0 ≡ 0)
+
+-- rules 7 to 9: the tasks' own figures are in range
+pub record TasksInRange (f : Figures) : Type 0 where
+  pub period : (i : ℕ) → i < f .tasks → (1 ≤ f .period i) × (f .period i ≤ 60000)
+  pub budget : (i : ℕ) → i < f .tasks → (1 ≤ f .budget i) × (f .budget i ≤ f .period i)
+  pub core : (i : ℕ) → i < f .tasks → f .core i < f .cores
+
+-- rules 10 to 12: every core has a task, M, Q and D are in range, and every task is accelerated
+pub record CoresInRange (f : Figures) : Type 0 where
+  pub not-bare : (k : ℕ) → k < f .cores → (i : ℕ) × (i < f .tasks) × (f .core i ≡ k)
+  pub factor : (i : ℕ) → i < f .tasks → (1 ≤ f .factor i) × (f .factor i ≤ 120000)
+  pub pivot : (k : ℕ) → k < f .cores → (1 ≤ f .pivot k) × (f .pivot k ≤ 60000)
+  pub divisor : (k : ℕ) → k < f .cores → (1 ≤ f .divisor k) × (f .divisor k ≤ 120000)
+  pub accelerated : (i : ℕ) → i < f .tasks → f .pivot (f .core i) * f .factor i ≤ f .period i * f .divisor (f .core i)
+
+-- rules 13 and 14: every core is simply periodic and its load is at most one
+pub record CoresFit (f : Figures) : Type 0 where
+  pub simply-periodic : (k : ℕ) → k < f .cores → Multiples (f .factor) 1 (orderOn f k)
+  pub load : (k : ℕ) → k < f .cores → LoadAtMostOne f k
+
+-- the figures are in range and every core fits
+pub record Fitting (f : Figures) : Type 0 where
+  pub tasks : TasksInRange f
+  pub cores : CoresInRange f
+  pub fits : CoresFit f
+
+-- the sheet has its form and its figures fit
+pub record Acceptable (s : List ℕ) : Type 0 where
+  pub frame : Framed s
+  pub spares : Spared s
   pub fitting : Fitting (figures s)
 
 -- What a dispatcher may rely on for a core with pivot Q and divisor D whose tasks in priority order are l; p, e and M are by task

@@ -1,6 +1,6 @@
 -- What a job list is in which nothing is broken.
 -- Assumes nothing.
-use Prim.Native.Nat.{ℕ, _/_, _%_, _≤_, _<_, zero-le}
+use Prim.Native.Nat.{ℕ, _/_, _≤_, zero-le}
 use mathlib.Core.Path.{_≡_, sym, _∙_}
 use mathlib.Core.Bool.{Bool, false, _||_}
 use mathlib.Core.Option.{none}
@@ -14,19 +14,12 @@ use Rattle.sheet.specs.Table.{scan}
 use Rattle.sheet.proofs.Ranges.{neither, in-range}
 use Rattle.sheet.proofs.Scans.{scan-clear, whole-clear}
 use Rattle.fit.proofs.Finds.{find-none}
-use Rattle.jobs.specs.Jobs.{jobCount, jobPeriod, jobBudget, listRows}
+use Rattle.jobs.specs.Jobs.{jobCount, jobPeriod, jobBudget, listRows, Listed}
 
 -- at most 64 entries, where the count was found to be right
 pub few : (l : List ℕ) (limit : ℕ) (r : Bool) → r ≡ (ltb 64 (jobCount l) || ltb 8 limit) → r ≡ false → length l / 4 ≤ 64
 unfolding jobCount
 few l limit r e h = ltb-false _ _ (neither (ltb 64 (length l / 4)) (ltb 8 limit) (sym e ∙ h) .0)
-
-pub record Listed (limit : ℕ) (l : List ℕ) : Type 0 where
-  pub even : length l % 4 ≡ 0
-  pub count : jobCount l ≤ 64
-  pub limit-max : limit ≤ 8
-  pub period : (i : ℕ) → i < jobCount l → (1 ≤ jobPeriod l i) × (jobPeriod l i ≤ 60000)
-  pub budget : (i : ℕ) → i < jobCount l → (1 ≤ jobBudget l i) × (jobBudget l i ≤ jobPeriod l i)
 
 -- a list that passes the rules
 pub listed : (limit : ℕ) (l : List ℕ) → none ≡ scan (listRows limit l) → Listed limit l

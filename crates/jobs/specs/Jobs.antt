@@ -1,5 +1,6 @@
 -- Document 01, "The planner": a job list is "a list of 4-byte entries (p, e, two bytes each; a task's number is its place in the list)".
-use Prim.Native.Nat.{ℕ, _+_, _*_, _/_, _%_}
+use Prim.Native.Nat.{ℕ, _+_, _*_, _/_, _%_, _≤_, _<_}
+use mathlib.Core.Path.{_≡_}
 use mathlib.Core.Bool.{not, _||_}
 use mathlib.Core.List.{List, [], _∷_}
 use lib.ListN.{length}
@@ -26,3 +27,11 @@ listRows limit l =
     ∷ 7 at find (badPeriod (jobPeriod l)) (numbers 0 (jobCount l))
     ∷ 8 at find (badBudget (jobPeriod l) (jobBudget l)) (numbers 0 (jobCount l))
     ∷ []
+
+-- what a job list and a limit are in which nothing is broken
+pub record Listed (limit : ℕ) (l : List ℕ) : Type 0 where
+  pub even : length l % 4 ≡ 0
+  pub count : jobCount l ≤ 64
+  pub limit-max : limit ≤ 8
+  pub period : (i : ℕ) → i < jobCount l → (1 ≤ jobPeriod l i) × (jobPeriod l i ≤ 60000)
+  pub budget : (i : ℕ) → i < jobCount l → (1 ≤ jobBudget l i) × (jobBudget l i ≤ jobPeriod l i)

@@ -7,7 +7,7 @@ use lib.ListN.{take}
 use Rattle.jobtext.specs.declared.Read.the-variants.{Jobs, Wrong}
 use Rattle.jobtext.specs.Text.{longer, begun, digit, inLine, lineEnd, step, run, finish, readOf}
 
--- "# two jobs", then "3 1", then nothing, then a tab, "300  7 #", and no line feed
+-- "# 3x", then "3 1" and a carriage return, then nothing, then a tab, "300  7 #", and no line feed
 good : List ℕ
 good = 35 ∷ 32 ∷ 51 ∷ 120 ∷ 10 ∷ 51 ∷ 32 ∷ 49 ∷ 13 ∷ 10 ∷ 10 ∷ 9 ∷ 51 ∷ 48 ∷ 48 ∷ 32 ∷ 32 ∷ 55 ∷ 32 ∷ 35 ∷ []
 

@@ -25,12 +25,12 @@ use Rattle.listing.specs.Listing.{thousandths, loadOf}
 -- within is at most the period
 module _ (f : Figures) (i k : ℕ) (g : Fitting f) (h : i < f .tasks) (e : k ≡ f .core i) where
   pub within-divisor : (d : ℕ) → d ≡ f .divisor k → 0 < d
-  within-divisor d t = rw (t, e) (g .divisor (f .core i) (g .core i h) .0)
+  within-divisor d t = rw (t, e) (g .cores .divisor (f .core i) (g .tasks .core i h) .0)
 
   pub within-small : (q m d : ℕ) → q ≡ f .pivot k → m ≡ f .factor i → d ≡ f .divisor k → within q d m ≤ 60000
   within-small q m d eq em ed =
       rw (ed, eq, em, e)
-      (le-trans (within-period (f .pivot (f .core i)) (f .divisor (f .core i)) (f .factor i) (f .period i) (g .accelerated i h)) (g .period i h .1))
+      (le-trans (within-period (f .pivot (f .core i)) (f .divisor (f .core i)) (f .factor i) (f .period i) (g .cores .accelerated i h)) (g .tasks .period i h .1))
 
 pub within-found : (q m d x : ℕ) → x ≡ q * m → x / d ≡ within q d m
 unfolding within
@@ -47,11 +47,11 @@ thousand load full h = div-le-of-le-mul full (rw (mul-comm full 1000) (mul-le-mu
 module _ (f : Figures) (k : ℕ) (g : Fitting f) where
   last-small : lastFactor (f .factor) 1 (orderOn f k) ≤ 120000
   unfolding orderOn
-  last-small = load-last (f .factor) 120000 1 _ (omega arith) (each-of _ (λ i m. g .factor i (m .0) .1) (order-members (f .period) (f .core) k (f .tasks)))
+  last-small = load-last (f .factor) 120000 1 _ (omega arith) (each-of _ (λ i m. g .cores .factor i (m .0) .1) (order-members (f .period) (f .core) k (f .tasks)))
 
   pub last-above : 0 < lastFactor (f .factor) 1 (orderOn f k)
   unfolding orderOn
-  last-above = last-positive (f .factor) 1 _ (omega arith) (each-of _ (λ i m. g .factor i (m .0) .0) (order-members (f .period) (f .core) k (f .tasks)))
+  last-above = last-positive (f .factor) 1 _ (omega arith) (each-of _ (λ i m. g .cores .factor i (m .0) .0) (order-members (f .period) (f .core) k (f .tasks)))
 
 module _ (f : Figures) (k : ℕ) (o : Order) (chain : Chain) (g : Fitting f) (n : f .tasks ≤ 64) (h : k < f .cores) (s : Ordered (order (f .period) (f .core) k (min (f .tasks) 64)) o) (e : chain ≡ chained (f .factor) (take (o .count) (o .tasks))) where
   listed : take (o .count) (o .tasks) ≡ orderOn f k
@@ -62,7 +62,7 @@ module _ (f : Figures) (k : ℕ) (o : Order) (chain : Chain) (g : Fitting f) (n 
 
   whole : chain ≡ Whole (lastFactor (f .factor) 1 (orderOn f k))
   unfolding chained chainAnswer
-  whole = e ∙ rw (listed, multiples-chain (f .factor) 1 (orderOn f k) (g .simply-periodic k h))
+  whole = e ∙ rw (listed, multiples-chain (f .factor) 1 (orderOn f k) (g .fits .simply-periodic k h))
 
   short : length (orderOn f k) ≤ 64
   unfolding orderOn
@@ -80,22 +80,22 @@ module _ (f : Figures) (k : ℕ) (o : Order) (chain : Chain) (g : Fitting f) (n 
       found : r ≡ load (f .budget) (f .factor) (f .divisor k) (lastFactor (f .factor) 1 (orderOn f k)) (orderOn f k)
       unfolding loadInRange
       found =
-          t ∙ rw (ed, listed, is-last, le-leb (f .divisor k) 120000 (g .divisor k h .1), le-leb _ 120000 (last-small f k g), le-leb _ 64 short)
+          t ∙ rw (ed, listed, is-last, le-leb (f .divisor k) 120000 (g .cores .divisor k h .1), le-leb _ 120000 (last-small f k g), le-leb _ 64 short)
 
       -- the load is at most full, and full is in range
       module _ (q full : ℕ) (eq : q ≡ f .pivot k) (ef : full ≡ q * last) where
         pub load-positive : 0 < full
         load-positive =
-            let a : 0 < q = rw eq (g .pivot k h .0) in
+            let a : 0 < q = rw eq (g .cores .pivot k h .0) in
             rw (ef, is-last) (mul-pos a (last-above f k g))
 
         pub load-full : r ≤ full
         unfolding LoadAtMostOne
-        load-full = rw (ef, eq, is-last, found) (g .load k h)
+        load-full = rw (ef, eq, is-last, found) (g .fits .load k h)
 
         pub load-range : full ≤ 7200000000
         load-range =
-            let b : q ≤ 60000 = rw eq (g .pivot k h .1) in
+            let b : q ≤ 60000 = rw eq (g .cores .pivot k h .1) in
             let l : last ≤ 120000 = rw is-last (last-small f k g) in
             let c : q * last ≤ 60000 * 120000 = mul-le-mul b l in
             rw ef c

@@ -13,15 +13,10 @@ use Rattle.fit.specs.Fits.{within, load, lastFactor}
 use Rattle.fit.proofs.Lists.{each-append}
 use Rattle.checker.specs.Tests.{orderOn, withinOn}
 use Rattle.checker.specs.Accepted.{Fitting, LoadAtMostOne}
-use Rattle.listing.specs.Decimal.{decimal}
+use Rattle.listing.specs.Decimal.{decimal, valueFrom}
 use Rattle.listing.specs.Listing.{thousandths, loadOf}
 use Rattle.listing.proofs.Decimals.{decimal-one, decimal-more, length-above, decimal-induction}
 use Rattle.listing.proofs.Figures.{thousand, last-above}
-
--- the number that digits mean, read from the left, behind a number already read
-unfoldable pub valueFrom : ℕ → List ℕ → ℕ
-valueFrom v [] = v
-valueFrom v (d ∷ l) = valueFrom (10 * v + (d - 48)) l
 
 value-last : (v d : ℕ) (l : List ℕ) → valueFrom v (l ++ d ∷ []) ≡ 10 * valueFrom v l + (d - 48)
 unfolding valueFrom
@@ -54,15 +49,15 @@ rounded a b h = (div-mul-le-self a b, rw (mul-comm (a / b + 1) b) (lt-mul-div-su
 -- "within" is the whole part of Q × M / D, of each task of an accepted sheet.
 pub within-shown : (f : Figures) (i : ℕ) → Fitting f → i < f .tasks → (withinOn f (f .core i) i * f .divisor (f .core i) ≤ f .pivot (f .core i) * f .factor i) × (f .pivot (f .core i) * f .factor i < (withinOn f (f .core i) i + 1) * f .divisor (f .core i))
 unfolding withinOn within
-within-shown f i g h = rounded _ _ (g .divisor (f .core i) (g .core i h) .0)
+within-shown f i g h = rounded _ _ (g .cores .divisor (f .core i) (g .tasks .core i h) .0)
 
 -- The load shown of each core is its exact load, of which Q × L is the whole, in thousandths rounded down; it is at most 1000.
 module _ (f : Figures) (k : ℕ) (g : Fitting f) (h : k < f .cores) where
   pub load-shown : (loadOf f k * (f .pivot k * lastFactor (f .factor) 1 (orderOn f k)) ≤ 1000 * load (f .budget) (f .factor) (f .divisor k) (lastFactor (f .factor) 1 (orderOn f k)) (orderOn f k))
       × (1000 * load (f .budget) (f .factor) (f .divisor k) (lastFactor (f .factor) 1 (orderOn f k)) (orderOn f k) < (loadOf f k + 1) * (f .pivot k * lastFactor (f .factor) 1 (orderOn f k)))
   unfolding loadOf thousandths
-  load-shown = rounded _ _ (mul-pos (g .pivot k h .0) (last-above f k g))
+  load-shown = rounded _ _ (mul-pos (g .cores .pivot k h .0) (last-above f k g))
 
   pub load-most : loadOf f k ≤ 1000
   unfolding loadOf thousandths LoadAtMostOne
-  load-most = thousand _ _ (g .load k h)
+  load-most = thousand _ _ (g .fits .load k h)

@@ -51,10 +51,10 @@ module _ (f : Figures) (g : Fitting f) (few : f .cores ≤ 8) where
   unfolding taskLine withinOn
   task-short i h s =
       let a = field-short the.task i space (omega arith) (fits _ (omega arith)) in
-      let b = field-short the.core (f .core i) space (omega arith) (fits _ (omega (arith, g .core i h))) in
-      let c = field-short the.period (f .period i) space (omega arith) (fits _ (omega (arith, g .period i h .1))) in
-      let d = field-short the.budget (f .budget i) space (omega arith) (fits _ (omega (arith, g .budget i h .1, g .period i h .1))) in
-      let e = field-short the.factor (f .factor i) space (omega arith) (fits _ (g .factor i h .1)) in
+      let b = field-short the.core (f .core i) space (omega arith) (fits _ (omega (arith, g .tasks .core i h))) in
+      let c = field-short the.period (f .period i) space (omega arith) (fits _ (omega (arith, g .tasks .period i h .1))) in
+      let d = field-short the.budget (f .budget i) space (omega arith) (fits _ (omega (arith, g .tasks .budget i h .1, g .tasks .period i h .1))) in
+      let e = field-short the.factor (f .factor i) space (omega arith) (fits _ (g .cores .factor i h .1)) in
       let w = field-short the.within (withinOn f (f .core i) i) lineFeed (omega arith) (fits _ (le-trans (within-small f i (f .core i) g h refl _ _ _ refl refl refl) (omega arith))) in
       simp length-append (omega (arith, a, b, c, d, e, w))
 
@@ -62,8 +62,8 @@ module _ (f : Figures) (g : Fitting f) (few : f .cores ≤ 8) where
   unfolding coreLine
   core-short k h =
       let a = field-short the.core k space (omega arith) (fits _ (omega arith)) in
-      let b = field-short the.pivot (f .pivot k) space (omega arith) (fits _ (omega (arith, g .pivot k h .1))) in
-      let c = field-short the.divisor (f .divisor k) space (omega arith) (fits _ (g .divisor k h .1)) in
+      let b = field-short the.pivot (f .pivot k) space (omega arith) (fits _ (omega (arith, g .cores .pivot k h .1))) in
+      let c = field-short the.divisor (f .divisor k) space (omega arith) (fits _ (g .cores .divisor k h .1)) in
       let d = field-short the.load (loadOf f k) lineFeed (omega arith) (fits _ (le-trans (load-most f k g h) (omega arith))) in
       simp length-append (omega (arith, a, b, c, d))
 
@@ -87,10 +87,10 @@ accepted-short : (s : List ℕ) → Acceptable s → length (sheetText (word s 3
 unfolding sheetText
 accepted-short s t =
     let f : Figures = figures s in
-    let a = header-short (word s 3) (f .tasks) (f .cores) (omega (arith, t .version)) (omega (arith, t .tasks)) (omega (arith, t .cores)) in
-    let b = all-lines (taskLine f) 114 (f .tasks) (λ i h. task-short f (t .fitting) (t .cores) i h (omega (arith, t .tasks))) in
-    let c = all-lines (coreLine f) 76 (f .cores) (core-short f (t .fitting) (t .cores)) in
-    simp length-append (omega (arith, a, b, c, t .tasks, t .cores))
+    let a = header-short (word s 3) (f .tasks) (f .cores) (omega (arith, t .frame .version)) (omega (arith, t .frame .tasks)) (omega (arith, t .frame .cores)) in
+    let b = all-lines (taskLine f) 114 (f .tasks) (λ i h. task-short f (t .fitting) (t .frame .cores) i h (omega (arith, t .frame .tasks))) in
+    let c = all-lines (coreLine f) 76 (f .cores) (core-short f (t .fitting) (t .frame .cores)) in
+    simp length-append (omega (arith, a, b, c, t .frame .tasks, t .frame .cores))
 
 -- what is found is one of those looked at
 find-in : (P : ℕ → Type 0) (q : ℕ → Bool) (l : List ℕ) (x : ℕ) → Each P l → find q l ≡ some x → P x

@@ -39,16 +39,16 @@ module _ (s : List ℕ) (n c : ℕ) (v : verdict s ≡ accepted n c) where
   cores-same = accepted-exactly s n c .0 v .2
 
   pub tasks-few : n ≤ 64
-  tasks-few = rw tasks-same (good .tasks)
+  tasks-few = rw tasks-same (good .frame .tasks)
 
   pub cores-few : c ≤ 8
-  cores-few = rw cores-same (good .cores)
+  cores-few = rw cores-same (good .frame .cores)
 
   pub sheet-long : 8 ≤ length s
-  sheet-long = omega (arith, good .size)
+  sheet-long = omega (arith, good .frame .size)
 
   pub tasks-long : 10 * n ≤ length (take (length s - 8) (drop 8 s))
-  tasks-long = rw (part s 8, length-drop 8 s, tasks-same) (omega (arith, good .size))
+  tasks-long = rw (part s 8, length-drop 8 s, tasks-same) (omega (arith, good .frame .size))
 
   pub parts : figuresOf n c (take (length s - 8) (drop 8 s)) (take (length (take (length s - 8) (drop 8 s)) - 10 * n) (drop (10 * n) (take (length s - 8) (drop 8 s)))) ≡ figures s
   parts = rw (part (take (length s - 8) (drop 8 s)) (10 * n), part s 8, tasks-same, cores-same) refl

@@ -1,5 +1,5 @@
 -- Numbers as the listing prints them.
-use Prim.Native.Nat.{ℕ, zero, suc, _+_, _/_, _%_}
+use Prim.Native.Nat.{ℕ, zero, suc, _+_, _-_, _*_, _/_, _%_}
 use mathlib.Core.Bool.{cond}
 use mathlib.Core.List.{List, [], _∷_, _++_}
 use lib.Dec.{ltb}
@@ -14,3 +14,8 @@ digits (suc k) x =
 
 unfoldable pub decimal : ℕ → List ℕ
 decimal x = digits (suc x) x
+
+-- the number that digits mean, read from the left, behind a number already read
+unfoldable pub valueFrom : ℕ → List ℕ → ℕ
+valueFrom v [] = v
+valueFrom v (d ∷ l) = valueFrom (10 * v + (d - 48)) l

@@ -205,16 +205,25 @@ module _ (p e : ℕ → ℕ) (n limit : ℕ) (a : Assignment) (small : limit ≤
   unfolding f sheet header LoadAtMostOne overloaded stretched
   fitting =
       record {
-        period = λ i h. rw (f-period i h) (period i h);
-        budget = λ i h. rw (f-period i h, f-budget i h) (budget i h);
-        core = λ i h. rw (f-core i h) (placed i h);
-        not-bare = λ k h. let (i, b, c) = settled .not-bare k h in (i, b, f-core i b ∙ c);
-        factor = λ i h. rw (f-factor i h) (factor-range i h .0, omega (arith, factor-range i h .1));
-        pivot = λ k h. rw (f-pivot k h) (fits-plain k h .pivot);
-        divisor = λ k h. rw (f-divisor k h) (fits-plain k h .divisor .0, omega (arith, fits-plain k h .divisor .1));
-        accelerated = λ i h. fast i h;
-        simply-periodic = λ k h. rw (f-order k) (f-fits k h .chained);
-        load = λ k h. rw (f-order k, f-pivot k h, f-divisor k h) (ltb-false _ _ (f-fits k h .loaded));
+        tasks =
+            record {
+              period = λ i h. rw (f-period i h) (period i h);
+              budget = λ i h. rw (f-period i h, f-budget i h) (budget i h);
+              core = λ i h. rw (f-core i h) (placed i h);
+            };
+        cores =
+            record {
+              not-bare = λ k h. let (i, b, c) = settled .not-bare k h in (i, b, f-core i b ∙ c);
+              factor = λ i h. rw (f-factor i h) (factor-range i h .0, omega (arith, factor-range i h .1));
+              pivot = λ k h. rw (f-pivot k h) (fits-plain k h .pivot);
+              divisor = λ k h. rw (f-divisor k h) (fits-plain k h .divisor .0, omega (arith, fits-plain k h .divisor .1));
+              accelerated = λ i h. fast i h;
+            };
+        fits =
+            record {
+              simply-periodic = λ k h. rw (f-order k) (f-fits k h .chained);
+              load = λ k h. rw (f-order k, f-pivot k h, f-divisor k h) (ltb-false _ _ (f-fits k h .loaded));
+            };
       }
     where
       accelerated-there : (i : ℕ) → i < n → Each (λ j. stretched (Q (at (a .core) j)) (D (at (a .core) j)) (f .period j) (f .factor j) ≡ false) (on (at (a .core) i))
@@ -232,13 +241,14 @@ module _ (p e : ℕ → ℕ) (n limit : ℕ) (a : Assignment) (small : limit ≤
       acceptable : Acceptable sheet
       acceptable =
           record {
-            mark = (refl, refl, refl);
-            version = refl;
-            tasks = many;
-            cores = le-trans (settled .few) small;
-            size = simp length-append (omega (arith, tasks-size, cores-size));
-            spare-header = refl;
-            spare-tasks = f-spare;
-            spare-cores = f-spares;
+            frame =
+                record {
+                  mark = (refl, refl, refl);
+                  version = refl;
+                  tasks = many;
+                  cores = le-trans (settled .few) small;
+                  size = simp length-append (omega (arith, tasks-size, cores-size));
+                };
+            spares = record { header = refl; tasks = f-spare; cores = f-spares };
             fitting = fitting;
           }

@@ -13,8 +13,8 @@ use Rattle.sheet.specs.declared.Finding.{Finding}
 use Rattle.sheet.specs.declared.Finding.the-variants.{Clear}
 use Rattle.sheet.specs.Table.{scan, findingOf}
 use Rattle.sheet.proofs.Scans.{part-skip, scan-hit, scan-skip, scan-none, whole-true, whole-false}
-use Rattle.jobs.specs.Jobs.{jobCount, listRows}
-use Rattle.jobs.proofs.Laws.{Listed, listed}
+use Rattle.jobs.specs.Jobs.{jobCount, listRows, Listed}
+use Rattle.jobs.proofs.Laws.{listed}
 use Rattle.planner.specs.Plan.{badStart, callRows}
 
 -- a list without faults

@@ -26,8 +26,8 @@ use Rattle.fit.proofs.Lists.{numbers-length}
 use Rattle.fit.specs.Ring.{keyOf, orderBy}
 use Rattle.fit.specs.Answers.{Ordered}
 use Rattle.fit.proofs.Priority.{order-length}
-use Rattle.jobs.specs.Jobs.{jobCount, jobPeriod, jobBudget, listRows}
-use Rattle.jobs.proofs.Laws.{Listed, listed}
+use Rattle.jobs.specs.Jobs.{jobCount, jobPeriod, jobBudget, listRows, Listed}
+use Rattle.jobs.proofs.Laws.{listed}
 use Rattle.checker.specs.Verdict.{verdict, accepted}
 use Rattle.planner.specs.declared.Fitted.{Fitted}
 use Rattle.planner.specs.FirstFit.{rotate, unassigned, placed, unplaced, firstFit}

@@ -19,8 +19,7 @@ use Rattle.fit.specs.Ring.{keyOf, orderBy}
 use Rattle.fit.proofs.Lists.{each-of, each-both, each-all, each-append, each-halves, each-occurs, pairs-append}
 use Rattle.fit.proofs.Priority.{order-members, order-rising, order-holds}
 use Rattle.fit.proofs.Selecting.{order-core-ext, order-alone, rising-differ}
-use Rattle.jobs.specs.Jobs.{jobCount, jobPeriod, jobBudget}
-use Rattle.jobs.proofs.Laws.{Listed}
+use Rattle.jobs.specs.Jobs.{jobCount, jobPeriod, jobBudget, Listed}
 use Rattle.figures.specs.Passing.{firstPassing}
 use Rattle.figures.proofs.Passing.{alone}
 use Rattle.planner.specs.declared.Assignment.{Assignment}

@@ -1,5 +1,6 @@
 use borrow.Author.Needs.{needs}
-use Rattle.cards.proofs.Sheets.{tasks-inside, sheet-counted}
+use Rattle.planner.proofs.Inside.{tasks-inside}
+use Rattle.cards.proofs.Sheets.{sheet-counted}
 use Rattle.cards.proofs.plan_card.Statement.{statement}
 use Rattle.cards.proofs.plan_card.Tie as tie
 use Rattle.cards.proofs.plan_card.Reads as reads
