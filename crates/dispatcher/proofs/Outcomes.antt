@@ -8,7 +8,7 @@ use native.Mathlib.Omega.{arith}
 use lib.ListN.{length, take, drop, set, take-append-drop}
 use lib.Seq.{getD-take, length-take-le, take-set-lt, drop-set-lt, set-getD}
 use lib.Dec.{ltb}
-use borrow.Author.Tests.{lt-ltb, le-ltb, ltb-true}
+use borrow.Author.Tests.{lt-ltb, le-ltb, ltb-true, ltb-false}
 use mir.Val.{Fits}
 use mir.Syntax.{w64}
 use Rattle.sheet.specs.declared.Refusal.the-variants.{Foreign, Unlisted, Early, Late, Quiet}
@@ -16,15 +16,17 @@ use Rattle.sheet.specs.declared.Refusal.{Refusal}
 use Rattle.sheet.specs.Refusals.{numberOf}
 use Rattle.fit.specs.Lists.{placeOf}
 use Rattle.timing.specs.declared.Task.{Task}
-use Rattle.timing.specs.Calls.{Call, Answer, ofFirst, modify, answer, next, release, finish, tick, idle, refused, releaseAnswer, finishAnswer, tickAnswer}
+use Rattle.timing.specs.Calls.{Call, Answer, ofFirst, modify, answer, next, release, finish, tick, idle, accepted, refused, releaseAnswer, finishAnswer, tickAnswer}
 use Rattle.timing.specs.Serving.{noTask, nth}
 use Rattle.timing.specs.Tasks.{pending, early, named, withJob, released, finished, used, older}
 use Rattle.dispatcher.specs.declared.Core.{Core}
+use Rattle.dispatcher.specs.declared.Spot.{Spot}
+use Rattle.dispatcher.specs.declared.Spot.the-variants.{At, Refused as Missing}
 use Rattle.dispatcher.specs.declared.Step.{Step}
 use Rattle.dispatcher.specs.declared.Answer.the-variants.{Accepted, Served, Idle}
 use Rattle.dispatcher.specs.State.{tasksOf, withTasks, foreign}
 use Rattle.dispatcher.specs.Operations.{ask, step, Operation, answerOf}
-use Rattle.dispatcher.specs.Steps.{refusal}
+use Rattle.dispatcher.specs.Steps.{spot, changed, refusal, acceptance}
 use Rattle.dispatcher.proofs.Foreign.{foreign-form}
 use Rattle.dispatcher.proofs.Aging.{state-is}
 
@@ -46,16 +48,16 @@ found q (t ∷ s) h = go (q t) refl h (found q s)
         record { passes = x .passes; answers = λ f d. rw e (x .answers f d); changes = λ g. rw e (ap (λ l. t ∷ l) (x .changes g)) }
 
 -- where none passes
-record Missing (q : Task → Bool) (s : List Task) : Type 0 where
+record Lacking (q : Task → Bool) (s : List Task) : Type 0 where
   pub answers : (f : Task → Answer) (d : Answer) → ofFirst q f d s ≡ d
   pub changes : (g : Task → Task) → modify q g s ≡ s
 
-missing : (q : Task → Bool) (s : List Task) → length s ≤ placeOf q s → Missing q s
+missing : (q : Task → Bool) (s : List Task) → length s ≤ placeOf q s → Lacking q s
 unfolding placeOf ofFirst modify
 missing q [] h = record { answers = λ f d. refl; changes = λ g. refl }
 missing q (t ∷ s) h = go (q t) refl h (missing q s)
   where
-    go : (b : Bool) → q t ≡ b → length (t ∷ s) ≤ cond b 0 (suc (placeOf q s)) → (length s ≤ placeOf q s → Missing q s) → Missing q (t ∷ s)
+    go : (b : Bool) → q t ≡ b → length (t ∷ s) ≤ cond b 0 (suc (placeOf q s)) → (length s ≤ placeOf q s → Lacking q s) → Lacking q (t ∷ s)
     go true e k r = absurd (omega arith)
     go false e k r =
         let x = r (omega arith) in
@@ -72,6 +74,10 @@ one-changed s i t h =
     let front : take (s .count) (set (s .tasks) i t) ≡ set (tasksOf s) i t = take-set-lt (s .count) (s .tasks) i t h in
     let back : drop (s .count) (set (s .tasks) i t) ≡ drop (s .count) (s .tasks) = drop-set-lt (s .count) (s .tasks) i t h in
     state-is _ (s .count) _ refl (rw (front, back) at (take-append-drop (s .count) (set (s .tasks) i t)))
+
+-- an accepted call
+pub accepts : (s v : Core) (i : ℕ) (t : Task) → v ≡ changed s i t → record { answer = Accepted; core = v } ≡ acceptance s i t
+accepts s v i t h = ap (λ (x : Core). record { answer = Accepted; core = x }) h
 
 -- 21
 pub op-foreign : (c : Call) (s : Core) (b : Bool) (r : Step) → b ≡ foreign s → b ≡ true → r ≡ refusal s Foreign 0 → Operation c s r
@@ -91,6 +97,9 @@ module _ (s : Core) (b : Bool) (e : b ≡ foreign s) (x : b ≡ false) where
   pub count-max : s .count ≤ 64
   count-max = foreign-form s (sym e ∙ x) .count
 
+  pub changed-max : (v : Core) (i : ℕ) (u : Task) → v ≡ changed s i u → v .count ≤ 64
+  changed-max v i u h = rw h count-max
+
   pub place-room : {i : ℕ} → i < s .count → i < 64
   place-room h = omega (arith, count-max)
 
@@ -106,7 +115,7 @@ module _ (s : Core) (b : Bool) (e : b ≡ foreign s) (x : b ≡ false) where
       hit : i < s .count → Found q (tasksOf s) i
       hit h = rw at (found q (tasksOf s) (omega (arith, many)))
 
-      miss : s .count ≤ i → Missing q (tasksOf s)
+      miss : s .count ≤ i → Lacking q (tasksOf s)
       miss h = missing q (tasksOf s) (omega (arith, many))
 
       task-at : i < s .count → nth (tasksOf s) i ≡ nth (s .tasks) i
@@ -129,50 +138,6 @@ module _ (s : Core) (b : Bool) (e : b ≡ foreign s) (x : b ≡ false) where
           let m = miss h in
           record { answer = ap (λ u. answerOf (u .answer)) k ∙ sym (native-ask c ∙ p ∙ m .answers f (refused 17 0)); core = ap (λ u. u .core) k ∙ sym (native-step c ∙ ap (withTasks s) (n ∙ m .changes g) ∙ same-tasks s) }
 
-    module _ (j i : ℕ) (at : i ≡ placeOf (named j) (tasksOf s)) where
-      pub release-unlisted : (r : Step) → s .count ≤ i → r ≡ refusal s Unlisted 0 → Operation (release j) s r
-      unfolding answer next
-      release-unlisted r h k = unlisted (named j) i at (release j) releaseAnswer released r refl refl h k
-
-      pub finish-unlisted : (r : Step) → s .count ≤ i → r ≡ refusal s Unlisted 0 → Operation (finish j) s r
-      unfolding answer next
-      finish-unlisted r h k = unlisted (named j) i at (finish j) finishAnswer finished r refl refl h k
-
-      module _ (h : i < s .count) where
-        -- 18, 19, and a job that starts
-        pub release-early : (r : Step) → nth (s .tasks) i .age < nth (s .tasks) i .period → r ≡ refusal s Early (nth (s .tasks) i .number) → Operation (release j) s r
-        unfolding answer next releaseAnswer released early
-        release-early r a k =
-            let y = lt-ltb _ _ a in
-            refusal-at (named j) i at (release j) releaseAnswer (refused 17 0) released Early r refl refl h (rw y) (rw y) k
-
-        pub release-late : (r : Step) → nth (s .tasks) i .period ≤ nth (s .tasks) i .age → 0 < nth (s .tasks) i .left → r ≡ refusal s Late (nth (s .tasks) i .number) → Operation (release j) s r
-        unfolding answer next releaseAnswer released early pending
-        release-late r a l k =
-            let y = le-ltb _ _ a in
-            let z = lt-ltb _ _ l in
-            refusal-at (named j) i at (release j) releaseAnswer (refused 17 0) released Late r refl refl h (rw (y, z)) (rw (y, z)) k
-
-        pub release-starts : (u : Task) → nth (s .tasks) i .period ≤ nth (s .tasks) i .age → nth (s .tasks) i .left ≤ 0 → u ≡ withJob (nth (s .tasks) i) 0 (nth (s .tasks) i .budget) → Operation (release j) s (record { answer = Accepted; core = record { count = s .count; tasks = set (s .tasks) i u } })
-        unfolding answer next releaseAnswer released early pending
-        release-starts u a l k =
-            let y = le-ltb _ _ a in
-            let z = le-ltb _ _ l in
-            operation (named j) i at (release j) releaseAnswer (refused 17 0) released _ refl refl h (rw (y, z)) (rw (k, y, z))
-
-        -- 20, and a job that ends
-        pub finish-quiet : (r : Step) → nth (s .tasks) i .left ≡ 0 → r ≡ refusal s Quiet (nth (s .tasks) i .number) → Operation (finish j) s r
-        unfolding answer next finishAnswer finished pending
-        finish-quiet r l k =
-            let z : ltb 0 (nth (s .tasks) i .left) ≡ false = le-ltb 0 (nth (s .tasks) i .left) (omega arith) in
-            refusal-at (named j) i at (finish j) finishAnswer (refused 17 0) finished Quiet r refl refl h (rw z) (rw z) k
-
-        pub finish-ends : (u : Task) → (nth (s .tasks) i .left ≡ 0 → ⊥) → u ≡ withJob (nth (s .tasks) i) (nth (s .tasks) i .age) 0 → Operation (finish j) s (record { answer = Accepted; core = record { count = s .count; tasks = set (s .tasks) i u } })
-        unfolding answer next finishAnswer finished pending
-        finish-ends u l k =
-            let z : ltb 0 (nth (s .tasks) i .left) ≡ true = lt-ltb 0 (nth (s .tasks) i .left) (omega (arith, l)) in
-            operation (named j) i at (finish j) finishAnswer (refused 17 0) finished _ refl refl h (rw z) (rw (k, z))
-
     module _ (i : ℕ) (at : i ≡ placeOf pending (tasksOf s)) where
       -- an idle tick
       pub tick-idles : (r : Core) → s .count ≤ i → r ≡ withTasks s (map older (tasksOf s)) → Operation tick s (record { answer = Idle; core = r })
@@ -187,14 +152,124 @@ module _ (s : Core) (b : Bool) (e : b ≡ foreign s) (x : b ≡ false) where
         pending-left = ltb-true 0 _ (ap pending (sym (task-at pending i at h)) ∙ hit pending i at h .passes)
 
         -- a tick that goes to the first pending task
-        pub tick-serves : (u : Task) (r : Core) → u ≡ withJob (nth (s .tasks) i) (nth (s .tasks) i .age) (nth (s .tasks) i .left - 1) → r ≡ withTasks (record { count = s .count; tasks = set (s .tasks) i u }) (map older (take (s .count) (set (s .tasks) i u))) → Operation tick s (record { answer = Served (nth (s .tasks) i .number); core = r })
+        pub tick-serves : (u : Task) (v r : Core) → u ≡ withJob (nth (s .tasks) i) (nth (s .tasks) i .age) (nth (s .tasks) i .left - 1) → v ≡ changed s i u → r ≡ withTasks v (map older (tasksOf v)) → Operation tick s (record { answer = Served (nth (s .tasks) i .number); core = r })
         unfolding answer next used withTasks
-        tick-serves u r k y =
+        tick-serves u v r k o y =
             let m = hit pending i at h in
             let e : u ≡ used (nth (tasksOf s) i) = k ∙ ap used (sym (task-at pending i at h)) in
             let front : take (s .count) (set (s .tasks) i u) ≡ modify pending used (tasksOf s) = take-set-lt (s .count) (s .tasks) i u h ∙ ap (set (tasksOf s) i) e ∙ sym (m .changes used) in
             let back : drop (s .count) (set (s .tasks) i u) ≡ drop (s .count) (s .tasks) = drop-set-lt (s .count) (s .tasks) i u h in
             record {
               answer = sym (native-ask tick ∙ m .answers tickAnswer idle ∙ ap tickAnswer (task-at pending i at h));
-              core = y ∙ rw (front, back) (sym (native-step tick));
+              core = y ∙ rw o (rw (front, back) (sym (native-step tick)));
             }
+
+-- the place of a named task, as it is looked for
+module _ (s : Core) (j : ℕ) (b : Bool) (e : b ≡ foreign s) where
+  pub spot-foreign : b ≡ true → Missing Foreign ≡ spot s j
+  unfolding spot
+  spot-foreign x = rw (← e, x)
+
+  module _ (x : b ≡ false) (i : ℕ) (at : i ≡ placeOf (named j) (tasksOf s)) where
+    pub spot-unlisted : s .count ≤ i → Missing Unlisted ≡ spot s j
+    unfolding spot
+    spot-unlisted h = rw (← e, x, ← at, le-ltb i (s .count) h)
+
+    pub spot-at : i < s .count → At i ≡ spot s j
+    unfolding spot
+    spot-at h = rw (← e, x, ← at, lt-ltb i (s .count) h)
+
+-- a call that names a task, which is not there or stands at a place
+module _ (s : Core) (j : ℕ) (p : Spot) (q : p ≡ spot s j) (room : length (s .tasks) ≡ 64) where
+  -- 21 and 17
+  absent : (c : Call) (f : Task → Answer) (g : Task → Task) (w : Refusal) (r : Step) → answer c (tasksOf s) ≡ ofFirst (named j) f (refused 17 0) (tasksOf s) → next c (tasksOf s) ≡ modify (named j) g (tasksOf s) → p ≡ Missing w → r ≡ refusal s w 0 → Operation c s r
+  unfolding spot
+  absent c f g w r a n h k = by (foreign s) refl (sym h ∙ q)
+    where
+      i : ℕ
+      i = placeOf (named j) (tasksOf s)
+
+      inside : foreign s ≡ false → (b : Bool) → ltb i (s .count) ≡ b → Missing w ≡ cond b (At i) (Missing Unlisted) → Operation c s r
+      inside x true e z = absurd (let never : _≡_ {A = ℕ} 0 1 = cc in omega arith)
+      inside x false e z =
+          let o : w ≡ Unlisted = cc in
+          unlisted s (foreign s) refl x room (named j) i refl c f g r a n (ltb-false i (s .count) e) (k ∙ ap (λ u. refusal s u 0) o)
+
+      by : (b : Bool) → foreign s ≡ b → Missing w ≡ cond b (Missing Foreign) (cond (ltb i (s .count)) (At i) (Missing Unlisted)) → Operation c s r
+      by true e z =
+          let o : w ≡ Foreign = cc in
+          op-foreign c s (foreign s) r refl e (k ∙ ap (λ u. refusal s u 0) o)
+      by false e z = inside e (ltb i (s .count)) refl z
+
+  pub release-absent : (w : Refusal) (r : Step) → p ≡ Missing w → r ≡ refusal s w 0 → Operation (release j) s r
+  unfolding answer next
+  release-absent w r h k = absent (release j) releaseAnswer released w r refl refl h k
+
+  pub finish-absent : (w : Refusal) (r : Step) → p ≡ Missing w → r ≡ refusal s w 0 → Operation (finish j) s r
+  unfolding answer next
+  finish-absent w r h k = absent (finish j) finishAnswer finished w r refl refl h k
+
+  module _ (i : ℕ) (h : p ≡ At i) where
+    there : (foreign s ≡ false) × (i ≡ placeOf (named j) (tasksOf s)) × (i < s .count)
+    unfolding spot
+    there = by (foreign s) refl (sym h ∙ q)
+      where
+        n : ℕ
+        n = placeOf (named j) (tasksOf s)
+
+        inside : foreign s ≡ false → (b : Bool) → ltb n (s .count) ≡ b → At i ≡ cond b (At n) (Missing Unlisted) → (foreign s ≡ false) × (i ≡ n) × (i < s .count)
+        inside x true e z =
+            let o : i ≡ n = cc in
+            (x, o, rw o (ltb-true n (s .count) e))
+        inside x false e z = absurd (let never : _≡_ {A = ℕ} 0 1 = cc in omega arith)
+
+        by : (b : Bool) → foreign s ≡ b → At i ≡ cond b (Missing Foreign) (cond (ltb n (s .count)) (At n) (Missing Unlisted)) → (foreign s ≡ false) × (i ≡ n) × (i < s .count)
+        by true e z = absurd (let never : _≡_ {A = ℕ} 0 1 = cc in omega arith)
+        by false e z = inside e (ltb n (s .count)) refl z
+
+    pub spot-room : i < 64
+    spot-room = place-room s (foreign s) refl (there .0) (there .2)
+
+    pub spot-fits : Fits w64 (i * 10)
+    spot-fits = offset-fits s (foreign s) refl (there .0) (there .2)
+
+    -- a refusal of the task there, and a change of it
+    refused-there : (c : Call) (f : Task → Answer) (g : Task → Task) (w : Refusal) (r : Step) → answer c (tasksOf s) ≡ ofFirst (named j) f (refused 17 0) (tasksOf s) → next c (tasksOf s) ≡ modify (named j) g (tasksOf s) → f (nth (s .tasks) i) ≡ refused (numberOf w) (nth (s .tasks) i .number) → g (nth (s .tasks) i) ≡ nth (s .tasks) i → r ≡ refusal s w (nth (s .tasks) i .number) → Operation c s r
+    refused-there c f g w r a n y z k = refusal-at s (foreign s) refl (there .0) room (named j) i (there .1) c f (refused 17 0) g w r a n (there .2) y z k
+
+    changed-there : (c : Call) (f : Task → Answer) (g : Task → Task) (r : Step) (u : Task) → answer c (tasksOf s) ≡ ofFirst (named j) f (refused 17 0) (tasksOf s) → next c (tasksOf s) ≡ modify (named j) g (tasksOf s) → accepted ≡ f (nth (s .tasks) i) → u ≡ g (nth (s .tasks) i) → r ≡ acceptance s i u → Operation c s r
+    changed-there c f g r u a n y z k = operation s (foreign s) refl (there .0) room (named j) i (there .1) c f (refused 17 0) g r a n (there .2) (ap (λ v. answerOf (v .answer)) k ∙ y) (ap (λ v. v .core) k ∙ ap (changed s i) z)
+
+    -- 18, 19, and a job that starts
+    pub release-early : (r : Step) → nth (s .tasks) i .age < nth (s .tasks) i .period → r ≡ refusal s Early (nth (s .tasks) i .number) → Operation (release j) s r
+    unfolding answer next releaseAnswer released early
+    release-early r a k =
+        let y = lt-ltb _ _ a in
+        refused-there (release j) releaseAnswer released Early r refl refl (rw y) (rw y) k
+
+    pub release-late : (r : Step) → nth (s .tasks) i .period ≤ nth (s .tasks) i .age → 0 < nth (s .tasks) i .left → r ≡ refusal s Late (nth (s .tasks) i .number) → Operation (release j) s r
+    unfolding answer next releaseAnswer released early pending
+    release-late r a l k =
+        let y = le-ltb _ _ a in
+        let z = lt-ltb _ _ l in
+        refused-there (release j) releaseAnswer released Late r refl refl (rw (y, z)) (rw (y, z)) k
+
+    pub release-starts : (u : Task) (r : Step) → nth (s .tasks) i .period ≤ nth (s .tasks) i .age → nth (s .tasks) i .left ≤ 0 → u ≡ withJob (nth (s .tasks) i) 0 (nth (s .tasks) i .budget) → r ≡ acceptance s i u → Operation (release j) s r
+    unfolding answer next releaseAnswer released early pending
+    release-starts u r a l e k =
+        let y = le-ltb _ _ a in
+        let z = le-ltb _ _ l in
+        changed-there (release j) releaseAnswer released r u refl refl (rw (y, z)) (rw (e, y, z)) k
+
+    -- 20, and a job that ends
+    pub finish-quiet : (r : Step) → nth (s .tasks) i .left ≡ 0 → r ≡ refusal s Quiet (nth (s .tasks) i .number) → Operation (finish j) s r
+    unfolding answer next finishAnswer finished pending
+    finish-quiet r l k =
+        let z : ltb 0 (nth (s .tasks) i .left) ≡ false = le-ltb 0 (nth (s .tasks) i .left) (omega arith) in
+        refused-there (finish j) finishAnswer finished Quiet r refl refl (rw z) (rw z) k
+
+    pub finish-ends : (u : Task) (r : Step) → (nth (s .tasks) i .left ≡ 0 → ⊥) → u ≡ withJob (nth (s .tasks) i) (nth (s .tasks) i .age) 0 → r ≡ acceptance s i u → Operation (finish j) s r
+    unfolding answer next finishAnswer finished pending
+    finish-ends u r l e k =
+        let z : ltb 0 (nth (s .tasks) i .left) ≡ true = lt-ltb 0 (nth (s .tasks) i .left) (omega (arith, l)) in
+        changed-there (finish j) finishAnswer finished r u refl refl (rw z) (rw (e, z)) k

@@ -1,15 +1,37 @@
 -- What the code's own steps ask and give; no public contract speaks of it.
 use Prim.Native.Nat.{ℕ, _+_, _*_}
+use mathlib.Core.Bool.{cond}
+use lib.ListN.{set}
+use lib.Dec.{ltb}
 use Rattle.sheet.specs.declared.Refusal.{Refusal}
+use Rattle.sheet.specs.declared.Refusal.the-variants.{Foreign, Unlisted}
+use Rattle.fit.specs.Lists.{placeOf}
 use Rattle.timing.specs.declared.Task.{Task}
+use Rattle.timing.specs.Tasks.{named}
 use Rattle.dispatcher.specs.declared.Core.{Core}
+use Rattle.dispatcher.specs.declared.Spot.{Spot}
+use Rattle.dispatcher.specs.declared.Spot.the-variants.{At, Refused as Missing}
 use Rattle.dispatcher.specs.declared.Step.{Step}
-use Rattle.dispatcher.specs.declared.Answer.the-variants.{Refused}
+use Rattle.dispatcher.specs.declared.Answer.the-variants.{Accepted, Refused}
+use Rattle.dispatcher.specs.State.{tasksOf, foreign}
 
 -- a number that rises with the priority order of sound tasks
 abbrev pub rank : Task → ℕ
 rank t = t .period * 64 + t .number
 
--- a refused call hands the state back as given
+-- the place of the task with a number: 21, then 17, else where it stands
+unfoldable pub spot : Core → ℕ → Spot
+spot s j =
+    let i : ℕ = placeOf (named j) (tasksOf s) in
+    cond (foreign s) (Missing Foreign) (cond (ltb i (s .count)) (At i) (Missing Unlisted))
+
+-- the state with another task at a place
+abbrev pub changed : Core → ℕ → Task → Core
+changed s i t = record { count = s .count; tasks = set (s .tasks) i t }
+
+-- a refused call hands the state back as given, an accepted one with a task changed
 abbrev pub refusal : Core → Refusal → ℕ → Step
 refusal s w p = record { answer = Refused w p; core = s }
+
+abbrev pub acceptance : Core → ℕ → Task → Step
+acceptance s i t = record { answer = Accepted; core = changed s i t }

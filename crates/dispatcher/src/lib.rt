@@ -1,6 +1,6 @@
 // The dispatcher of one core: its state, and release, finish and tick on it.
 ghost use mathlib.Core.Path.{_≡_};
-ghost use Prim.Native.Nat.{_+_, _*_, _≤_};
+ghost use Prim.Native.Nat.{_+_, _*_, _<_, _≤_};
 ghost use mathlib.Core.List.{[], map};
 ghost use lib.ListN.{length, take};
 ghost use Rattle.sheet.specs.Numbers.{word};
@@ -16,7 +16,7 @@ ghost use Rattle.dispatcher.specs.State.{tasksOf, withTasks, sound, fore
 ghost use Rattle.dispatcher.specs.Operations.{Operation};
 ghost use Rattle.dispatcher.specs.Starts.{freshTask, freshTasks, stateOf, SheetStart, ListStart};
 ghost use Rattle.dispatcher.specs.OnTime.{Timely};
-ghost use Rattle.dispatcher.specs.Steps.{rank, refusal};
+ghost use Rattle.dispatcher.specs.Steps.{rank, spot, changed, refusal, acceptance};
 use checker::Verdict;
 use fit::By;
 use fit::Order;
@@ -37,6 +37,12 @@ pub enum Answer {
     Served(u8),
     Idle,
     Refused { word: Refusal, place: u16 },
+}
+
+// The place of the task that a call names, or why it has none.
+enum Spot {
+    At(usize),
+    Refused(Refusal),
 }
 
 // An operation's answer and the state that it hands back.
@@ -126,6 +132,20 @@ fn first_named(core: Core, number: u64) -> usize
         i += 1;
     }
     i
+}
+
+// The place of the task with this number in a state: 21, then 17, else where it stands.
+fn spot_of(core: Core, number: u64) -> Spot
+    ensures { λ r. ⌜ r ≡ spot core number ⌝ }
+{
+    if is_foreign(core) {
+        return Spot::Refused(Refusal::Foreign);
+    }
+    let at = first_named(core, number);
+    if core.count <= at {
+        return Spot::Refused(Refusal::Unlisted);
+    }
+    Spot::At(at)
 }
 
 // The task with another age and other ticks left.
@@ -252,6 +272,26 @@ fn refuse(core: Core, word: Refusal, place: u16) -> Step
     }
 }
 
+// The state with another task at a place.
+fn with_task(core: Core, at: usize, t: Task) -> Core
+    requires { ⌜ at < 64 ⌝ }
+    ensures { λ r. ⌜ r ≡ changed core at t ⌝ }
+{
+    let mut next = core;
+    next.tasks[at] = t;
+    next
+}
+
+fn accept(core: Core, at: usize, t: Task) -> Step
+    requires { ⌜ at < 64 ⌝ }
+    ensures { λ r. ⌜ r ≡ acceptance core at t ⌝ }
+{
+    Step {
+        answer: Answer::Accepted,
+        core: with_task(core, at, t),
+    }
+}
+
 // Starts a core from a sheet and a core number: 1 to 14, then 9 where there is no such core, else its fresh state.
 pub fn start_sheet(sheet: &[u8], core: u64) -> Step
     ensures { λ r. ⌜ SheetStart (now (sheet .entry)) core r ⌝ }
@@ -294,25 +334,19 @@ impl Core {
     pub fn release(self, number: u64) -> Step
         ensures { λ r. ⌜ Operation (release number) self r ⌝ }
     {
-        if is_foreign(self) {
-            return refuse(self, Refusal::Foreign, 0);
-        }
-        let at = first_named(self, number);
-        if self.count <= at {
-            return refuse(self, Refusal::Unlisted, 0);
-        }
-        let t = self.tasks[at];
-        if t.age < t.period {
-            return refuse(self, Refusal::Early, t.number as u16);
-        }
-        if 0 < t.left {
-            return refuse(self, Refusal::Late, t.number as u16);
-        }
-        let mut next = self;
-        next.tasks[at] = with_job(t, 0, t.budget);
-        Step {
-            answer: Answer::Accepted,
-            core: next,
+        let spot = spot_of(self, number);
+        match spot {
+            Spot::Refused(word) => refuse(self, word, 0),
+            Spot::At(at) => {
+                let t = self.tasks[at];
+                if t.age < t.period {
+                    return refuse(self, Refusal::Early, t.number as u16);
+                }
+                if 0 < t.left {
+                    return refuse(self, Refusal::Late, t.number as u16);
+                }
+                accept(self, at, with_job(t, 0, t.budget))
+            }
         }
     }
 
@@ -320,22 +354,16 @@ impl Core {
     pub fn finish(self, number: u64) -> Step
         ensures { λ r. ⌜ Operation (finish number) self r ⌝ }
     {
-        if is_foreign(self) {
-            return refuse(self, Refusal::Foreign, 0);
-        }
-        let at = first_named(self, number);
-        if self.count <= at {
-            return refuse(self, Refusal::Unlisted, 0);
-        }
-        let t = self.tasks[at];
-        if t.left == 0 {
-            return refuse(self, Refusal::Quiet, t.number as u16);
-        }
-        let mut next = self;
-        next.tasks[at] = with_job(t, t.age, 0);
-        Step {
-            answer: Answer::Accepted,
-            core: next,
+        let spot = spot_of(self, number);
+        match spot {
+            Spot::Refused(word) => refuse(self, word, 0),
+            Spot::At(at) => {
+                let t = self.tasks[at];
+                if t.left == 0 {
+                    return refuse(self, Refusal::Quiet, t.number as u16);
+                }
+                accept(self, at, with_job(t, t.age, 0))
+            }
         }
     }
 
@@ -355,9 +383,7 @@ impl Core {
             };
         }
         let t = self.tasks[first];
-        let mut next = self;
-        next.tasks[first] = with_job(t, t.age, t.left - 1);
-        let later = all_aged(next);
+        let later = all_aged(with_task(self, first, with_job(t, t.age, t.left - 1)));
         Step {
             answer: Answer::Served(t.number),
             core: later,

@@ -1,106 +1,96 @@
 use borrow.Author.Needs.{needs}
 use Rattle.dispatcher.proofs.Places.{array-length}
-use Rattle.dispatcher.proofs.Outcomes.{op-foreign, count-max, place-room, offset-fits, release-unlisted, release-early, release-late, release-starts}
+use Rattle.dispatcher.proofs.Outcomes.{spot-room, spot-fits, release-absent, release-early, release-late, release-starts}
 use Rattle.dispatcher.proofs.Core.release.Statement.{statement}
 use Rattle.dispatcher.proofs.Core.release.Tie as tie
 use Rattle.dispatcher.proofs.Core.release.Reads as reads
 use Rattle.dispatcher.proofs.Core.release.Lts as lts
-use Rattle.dispatcher.proofs.first_named.Reads as first-named-reads
-use Rattle.dispatcher.proofs.is_foreign.Reads as is-foreign-reads
+use Rattle.dispatcher.proofs.accept.Reads as accept-reads
 use Rattle.dispatcher.proofs.refuse.Reads as refuse-reads
+use Rattle.dispatcher.proofs.spot_of.Reads as spot-of-reads
 use Rattle.dispatcher.proofs.with_job.Reads as with-job-reads
 
--- src/lib.rt:173:12
-is-foreign-requires : tie.Need-is-foreign-requires
-is-foreign-requires c κs = search needs
+-- src/lib.rt:337:13
+spot-of-requires : tie.Need-spot-of-requires
+spot-of-requires c κs = search needs
 
--- src/lib.rt:174:13
+-- src/lib.rt:339:27
+enum-known-spot : tie.Need-enum-known-spot
+enum-known-spot c = search needs
+
+-- src/lib.rt:339:36
 refuse-requires : tie.Need-refuse-requires
 refuse-requires c κs = search needs
 
--- src/lib.rt:174:13
-returns : tie.Need-returns
-returns c = search (op-foreign, needs)
+-- src/lib.rt:340:22
+enum-known-spot-2 : tie.Need-enum-known-spot-2
+enum-known-spot-2 c = search needs
 
--- src/lib.rt:176:13
-first-named-requires : tie.Need-first-named-requires
-first-named-requires c κs = search (count-max, needs)
-
--- src/lib.rt:178:13
-refuse-requires-2 : tie.Need-refuse-requires-2
-refuse-requires-2 c κs = search needs
-
--- src/lib.rt:178:13
-returns-2 : tie.Need-returns-2
-returns-2 c = search (release-unlisted, array-length, needs)
-
--- src/lib.rt:180:17
+-- src/lib.rt:341:25
 mul-t : tie.Need-mul-t
-mul-t c = search offset-fits
+mul-t c = search (spot-fits, array-length)
 
--- src/lib.rt:180:17
+-- src/lib.rt:341:25
 element-copy-out-t : tie.Need-element-copy-out-t
-element-copy-out-t c = search (place-room, needs)
+element-copy-out-t c = search (spot-room, array-length, needs)
 
--- src/lib.rt:182:49
+-- src/lib.rt:343:57
 cast-refuse : tie.Need-cast-refuse
 cast-refuse c = search needs
 
--- src/lib.rt:182:13
-refuse-requires-3 : tie.Need-refuse-requires-3
-refuse-requires-3 c κs = search needs
+-- src/lib.rt:343:21
+refuse-requires-2 : tie.Need-refuse-requires-2
+refuse-requires-2 c κs = search needs
 
--- src/lib.rt:182:13
-returns-3 : tie.Need-returns-3
-returns-3 c = search (release-early, array-length, needs)
+-- src/lib.rt:343:21
+returns : tie.Need-returns
+returns c = search (release-early, array-length, needs)
 
--- src/lib.rt:185:48
+-- src/lib.rt:346:56
 cast-refuse-2 : tie.Need-cast-refuse-2
 cast-refuse-2 c = search needs
 
--- src/lib.rt:185:13
-refuse-requires-4 : tie.Need-refuse-requires-4
-refuse-requires-4 c κs = search needs
+-- src/lib.rt:346:21
+refuse-requires-3 : tie.Need-refuse-requires-3
+refuse-requires-3 c κs = search needs
 
--- src/lib.rt:185:13
-returns-4 : tie.Need-returns-4
-returns-4 c = search (release-late, array-length, needs)
+-- src/lib.rt:346:21
+returns-2 : tie.Need-returns-2
+returns-2 c = search (release-late, array-length, needs)
 
--- src/lib.rt:188:26
+-- src/lib.rt:348:34
 with-job-requires : tie.Need-with-job-requires
 with-job-requires c κs = search needs
 
--- src/lib.rt:188:9
-mul-t11 : tie.Need-mul-t11
-mul-t11 c = search offset-fits
+-- src/lib.rt:348:17
+accept-requires : tie.Need-accept-requires
+accept-requires c κs = search (spot-room, array-length, needs)
 
--- src/lib.rt:188:9
-element-set-from-next : tie.Need-element-set-from-next
-element-set-from-next c = search (place-room, needs)
+-- src/lib.rt:334:5
+returns-3 : tie.Need-returns-3
+returns-3 c = search (release-absent, release-starts, array-length, needs)
 
--- src/lib.rt:170:5
-returns-5 : tie.Need-returns-5
-returns-5 c = search (release-starts, array-length, needs)
+-- src/lib.rt:334:5
+returns-4 : tie.Need-returns-4
+returns-4 c = search (release-absent, release-starts, array-length, needs)
 
 pub release-spec : {M : Type 1} → statement M
 release-spec =
     tie.close
     (tie.spec
-    is-foreign-requires
+    spot-of-requires
+    enum-known-spot
     refuse-requires
-    returns
-    first-named-requires
-    refuse-requires-2
-    returns-2
+    enum-known-spot-2
     mul-t
     element-copy-out-t
     cast-refuse
-    refuse-requires-3
-    returns-3
+    refuse-requires-2
+    returns
     cast-refuse-2
-    refuse-requires-4
-    returns-4
+    refuse-requires-3
+    returns-2
     with-job-requires
-    mul-t11
-    element-set-from-next
-    returns-5)
+    accept-requires
+    returns-3
+    returns-4)
