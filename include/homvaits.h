@@ -1,6 +1,7 @@
 /* Homvaits: checks, plans and runs timing sheets (mark TSH).
  *
  * Link libcapi.a (`rt staticlib capi`; x86-64 Linux). Every call takes any bytes and any numbers, and always returns.
+ * A pointer must be valid for its length (it may be anything where the length is 0, but not null), and an output must not overlap an input.
  * `refusal` is 0 where nothing is refused, else the number in the scope paper's table; fields that do not apply are 0. */
 #ifndef HOMVAITS_H
 #define HOMVAITS_H

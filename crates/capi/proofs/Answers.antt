@@ -23,13 +23,13 @@ use Rattle.listing.specs.Answers as list
 use Rattle.timing.specs.Calls.{Call, Answer, accepted, served, idle, refused}
 use Rattle.dispatcher.specs.declared.Core.{Core}
 use Rattle.dispatcher.specs.declared.Step.{Step}
-use Rattle.dispatcher.specs.declared.Answer.{Answer as Told}
+use Rattle.dispatcher.specs.declared.Answer.{Answer as CodeAnswer}
 use Rattle.dispatcher.specs.declared.Answer.the-variants.{Accepted, Served, Idle, Refused}
 use Rattle.dispatcher.specs.Operations.{answerOf}
 use Rattle.dispatcher.specs.Starts.{sheetAnswer}
 use Rattle.dispatcher.specs.OnTime.{Kept, Timely}
-use Rattle.capi.specs.declared.Moved.{Moved}
-use Rattle.capi.specs.Answers.{checkedOf, plannedOf, listedOf, movedOf, tickedOf}
+use Rattle.capi.specs.declared.StepAnswer.{StepAnswer}
+use Rattle.capi.specs.Answers.{checkedOf, plannedOf, listedOf, steppedOf, tickedOf}
 
 -- no refusal has the number 0
 positive : (w : Refusal) → 1 ≤ numberOf w
@@ -90,21 +90,21 @@ unfolding listedOf
 listed-tight v o e h = ap listedOf (sym (ap list.answerOf h) ∙ e)
 
 -- dispatch: each answer of the code
-module _ (a : Told) (s : Core) where
-  pub moved-accepted : (m : Moved) → a ≡ Accepted → m ≡ record { refusal = 0; place = 0; core = s } → m ≡ movedOf (answerOf a) s
-  unfolding movedOf
+module _ (a : CodeAnswer) (s : Core) where
+  pub moved-accepted : (m : StepAnswer) → a ≡ Accepted → m ≡ record { refusal = 0; place = 0; core = s } → m ≡ steppedOf (answerOf a) s
+  unfolding steppedOf
   moved-accepted m h e = rw h e
 
-  pub moved-served : (m : Moved) (j : ℕ) → a ≡ Served j → m ≡ record { refusal = 0; place = 0; core = s } → m ≡ movedOf (answerOf a) s
-  unfolding movedOf
+  pub moved-served : (m : StepAnswer) (j : ℕ) → a ≡ Served j → m ≡ record { refusal = 0; place = 0; core = s } → m ≡ steppedOf (answerOf a) s
+  unfolding steppedOf
   moved-served m j h e = rw h e
 
-  pub moved-idle : (m : Moved) → a ≡ Idle → m ≡ record { refusal = 0; place = 0; core = s } → m ≡ movedOf (answerOf a) s
-  unfolding movedOf
+  pub moved-idle : (m : StepAnswer) → a ≡ Idle → m ≡ record { refusal = 0; place = 0; core = s } → m ≡ steppedOf (answerOf a) s
+  unfolding steppedOf
   moved-idle m h e = rw h e
 
-  pub moved-refused : (w : Refusal) (k p : ℕ) → a ≡ Refused w p → k ≡ numberOf w → record { refusal = k; place = p; core = s } ≡ movedOf (answerOf a) s
-  unfolding movedOf
+  pub moved-refused : (w : Refusal) (k p : ℕ) → a ≡ Refused w p → k ≡ numberOf w → record { refusal = k; place = p; core = s } ≡ steppedOf (answerOf a) s
+  unfolding steppedOf
   moved-refused w k p h r = rw (r, h)
 
   module _ (o : Answer) (t : Core) (e : answerOf a ≡ o) (f : s ≡ t) where
@@ -125,8 +125,8 @@ module _ (a : Told) (s : Core) where
     ticked-accepted h = rw (← e, ← f, h)
 
 -- a call's answer and state, handed on
-pub moved-on : (m : Moved) (a : Told) (s : Core) (o : Answer) (t : Core) → m ≡ movedOf (answerOf a) s → answerOf a ≡ o → s ≡ t → m ≡ movedOf o t
-moved-on m a s o t e h k = e ∙ rw (h, k)
+pub stepped-on : (m : StepAnswer) (a : CodeAnswer) (s : Core) (o : Answer) (t : Core) → m ≡ steppedOf (answerOf a) s → answerOf a ≡ o → s ≡ t → m ≡ steppedOf o t
+stepped-on m a s o t e h k = e ∙ rw (h, k)
 
 -- a start that is not refused is accepted: it answers nothing else
 unfoldable pub isStart : Answer → Bool
@@ -144,23 +144,23 @@ start-answers (check.accepted n c) k = by (ltb k c)
     by false = refl
 start-answers (check.refused w p) k = refl
 
-start-accepted : (a : Told) (s : Core) → isStart (answerOf a) ≡ true → movedOf (answerOf a) s .refusal ≡ 0 → answerOf a ≡ accepted
-unfolding isStart movedOf
+start-accepted : (a : CodeAnswer) (s : Core) → isStart (answerOf a) ≡ true → steppedOf (answerOf a) s .refusal ≡ 0 → answerOf a ≡ accepted
+unfolding isStart steppedOf
 start-accepted Accepted s e z = refl
 start-accepted (Served j) s e z = absurd (false≢true e)
 start-accepted Idle s e z = absurd (false≢true e)
 start-accepted (Refused w p) s e z = absurd (omega (arith, positive w))
 
-state : (a : Answer) (s : Core) → movedOf a s .core ≡ s
-unfolding movedOf
+state : (a : Answer) (s : Core) → steppedOf a s .core ≡ s
+unfolding steppedOf
 state accepted s = refl
 state (served j) s = refl
 state idle s = refl
 state (refused k p) s = refl
 
 -- what the start promises, of the C answer
-pub kept-on : (bytes : List ℕ) (k : ℕ) (m : Moved) (r : Step) → m ≡ movedOf (answerOf (r .answer)) (r .core) → answerOf (r .answer) ≡ sheetAnswer (check.verdict bytes) k → Timely bytes k r → m .refusal ≡ 0 → (cs : List Call) → Kept bytes k (m .core) cs
+pub kept-on : (bytes : List ℕ) (k : ℕ) (m : StepAnswer) (r : Step) → m ≡ steppedOf (answerOf (r .answer)) (r .core) → answerOf (r .answer) ≡ sheetAnswer (check.verdict bytes) k → Timely bytes k r → m .refusal ≡ 0 → (cs : List Call) → Kept bytes k (m .core) cs
 kept-on bytes k m r e h t z cs =
-    let started : answerOf (r .answer) ≡ accepted = start-accepted (r .answer) (r .core) (ap isStart h ∙ start-answers (check.verdict bytes) k) (sym (ap (λ (x : Moved). x .refusal) e) ∙ z) in
-    let same : m .core ≡ r .core = ap (λ (x : Moved). x .core) e ∙ state (answerOf (r .answer)) (r .core) in
+    let started : answerOf (r .answer) ≡ accepted = start-accepted (r .answer) (r .core) (ap isStart h ∙ start-answers (check.verdict bytes) k) (sym (ap (λ (x : StepAnswer). x .refusal) e) ∙ z) in
+    let same : m .core ≡ r .core = ap (λ (x : StepAnswer). x .core) e ∙ state (answerOf (r .answer)) (r .core) in
     subst (λ (x : Core). Kept bytes k x cs) (sym same) (t .on-time started cs)

@@ -7,7 +7,7 @@ use Rattle.dispatcher.specs.declared.Core.{Core}
 use Rattle.capi.specs.declared.Checked.{Checked}
 use Rattle.capi.specs.declared.PlanAnswer.{PlanAnswer}
 use Rattle.capi.specs.declared.ListAnswer.{ListAnswer}
-use Rattle.capi.specs.declared.Moved.{Moved}
+use Rattle.capi.specs.declared.StepAnswer.{StepAnswer}
 use Rattle.capi.specs.declared.Ticked.{Ticked}
 
 unfoldable pub checkedOf : check.Outcome → Checked
@@ -23,11 +23,11 @@ listedOf (list.written n) = record { refusal = 0; place = 0; length = n }
 listedOf (list.refused k p) = record { refusal = k; place = p; length = 0 }
 
 -- a start, a release or a finish, with the state that it hands back
-unfoldable pub movedOf : Answer → Core → Moved
-movedOf accepted s = record { refusal = 0; place = 0; core = s }
-movedOf (served j) s = record { refusal = 0; place = 0; core = s }
-movedOf idle s = record { refusal = 0; place = 0; core = s }
-movedOf (refused k p) s = record { refusal = k; place = p; core = s }
+unfoldable pub steppedOf : Answer → Core → StepAnswer
+steppedOf accepted s = record { refusal = 0; place = 0; core = s }
+steppedOf (served j) s = record { refusal = 0; place = 0; core = s }
+steppedOf idle s = record { refusal = 0; place = 0; core = s }
+steppedOf (refused k p) s = record { refusal = k; place = p; core = s }
 
 -- a tick: the task that got it, or 255 where it was idle
 unfoldable pub tickedOf : Answer → Core → Ticked

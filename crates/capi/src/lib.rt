@@ -12,7 +12,7 @@ ghost use Rattle.timing.specs.Calls.{Call, release, finish, tick};
 ghost use Rattle.dispatcher.specs.Operations.{answerOf, ask, step};
 ghost use Rattle.dispatcher.specs.Starts.{sheetAnswer, sheetState, listAnswer, listState};
 ghost use Rattle.dispatcher.specs.OnTime.{Kept};
-ghost use Rattle.capi.specs.Answers.{checkedOf, plannedOf, listedOf, movedOf, tickedOf};
+ghost use Rattle.capi.specs.Answers.{checkedOf, plannedOf, listedOf, steppedOf, tickedOf};
 use checker::Verdict;
 use dispatcher::Answer;
 use dispatcher::Core;
@@ -45,7 +45,7 @@ pub struct ListAnswer {
 }
 
 #[repr(C)]
-pub struct Moved {
+pub struct StepAnswer {
     pub refusal: u8,
     pub place: u16,
     pub core: Core,
@@ -129,23 +129,23 @@ pub extern "C" fn homvaits_list(sheet: &[u8], out: &mut [u8]) -> ListAnswer
     }
 }
 
-fn passed(core: Core) -> Moved
+fn passed(core: Core) -> StepAnswer
     ensures { λ r. ⌜ r ≡ record { refusal = 0; place = 0; core = core } ⌝ }
 {
-    Moved {
+    StepAnswer {
         refusal: 0,
         place: 0,
         core,
     }
 }
 
-fn hand_back(r: Step) -> Moved
-    ensures { λ m. ⌜ m ≡ movedOf (answerOf (r .answer)) (r .core) ⌝ }
+fn hand_back(r: Step) -> StepAnswer
+    ensures { λ m. ⌜ m ≡ steppedOf (answerOf (r .answer)) (r .core) ⌝ }
 {
     let core = r.core;
     let answer = r.answer;
     match answer {
-        Answer::Refused { word, place } => Moved {
+        Answer::Refused { word, place } => StepAnswer {
             refusal: sheet::number(word),
             place,
             core,
@@ -158,30 +158,30 @@ fn hand_back(r: Step) -> Moved
 
 // A start from an accepted sheet ends every job on time, whatever calls follow.
 #[no_mangle]
-pub extern "C" fn homvaits_start(sheet: &[u8], core: u64) -> Moved
-    ensures { λ r. ⌜ r ≡ movedOf (sheetAnswer (verdict (now (sheet .entry))) core) (sheetState (verdict (now (sheet .entry))) (now (sheet .entry)) core) ⌝ }
+pub extern "C" fn homvaits_start(sheet: &[u8], core: u64) -> StepAnswer
+    ensures { λ r. ⌜ r ≡ steppedOf (sheetAnswer (verdict (now (sheet .entry))) core) (sheetState (verdict (now (sheet .entry))) (now (sheet .entry)) core) ⌝ }
     ensures on_time { λ r. ⌜ (r .refusal ≡ 0 → (cs : List Call) → Kept (now (sheet .entry)) core (r .core) cs) ⌝ }
 {
     hand_back(dispatcher::start_sheet(sheet, core))
 }
 
 #[no_mangle]
-pub extern "C" fn homvaits_start_list(jobs: &[u8]) -> Moved
-    ensures { λ r. ⌜ r ≡ movedOf (listAnswer (scan (listRows 0 (now (jobs .entry))))) (listState (scan (listRows 0 (now (jobs .entry)))) (now (jobs .entry))) ⌝ }
+pub extern "C" fn homvaits_start_list(jobs: &[u8]) -> StepAnswer
+    ensures { λ r. ⌜ r ≡ steppedOf (listAnswer (scan (listRows 0 (now (jobs .entry))))) (listState (scan (listRows 0 (now (jobs .entry)))) (now (jobs .entry))) ⌝ }
 {
     hand_back(dispatcher::start_list(jobs))
 }
 
 #[no_mangle]
-pub extern "C" fn homvaits_release(core: Core, number: u64) -> Moved
-    ensures { λ r. ⌜ r ≡ movedOf (ask (release number) core) (step (release number) core) ⌝ }
+pub extern "C" fn homvaits_release(core: Core, number: u64) -> StepAnswer
+    ensures { λ r. ⌜ r ≡ steppedOf (ask (release number) core) (step (release number) core) ⌝ }
 {
     hand_back(core.release(number))
 }
 
 #[no_mangle]
-pub extern "C" fn homvaits_finish(core: Core, number: u64) -> Moved
-    ensures { λ r. ⌜ r ≡ movedOf (ask (finish number) core) (step (finish number) core) ⌝ }
+pub extern "C" fn homvaits_finish(core: Core, number: u64) -> StepAnswer
+    ensures { λ r. ⌜ r ≡ steppedOf (ask (finish number) core) (step (finish number) core) ⌝ }
 {
     hand_back(core.finish(number))
 }

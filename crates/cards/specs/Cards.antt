@@ -8,7 +8,7 @@ use Rattle.sheet.specs.Records.{Figures, figures}
 use Rattle.fit.specs.declared.By.the-variants.{Ring}
 use Rattle.fit.specs.Lists.{numbers, at}
 use Rattle.fit.specs.Ring.{orderBy}
-use Rattle.fit.specs.Fits.{within}
+use Rattle.checker.specs.Tests.{withinOn}
 use Rattle.checker.specs.Verdict.{verdict}
 use Rattle.checker.specs.Verdict as checker
 use Rattle.jobs.specs.Jobs.{listRows}
@@ -78,7 +78,7 @@ planWith o f =
       pivot = f .pivot 0;
       divisor = f .divisor 0;
       factors = map (f .factor) (numbers 0 (f .tasks));
-      w = map (λ i. within (f .pivot 0) (f .divisor 0) (f .factor i)) (numbers 0 (f .tasks));
+      w = map (λ i. withinOn f 0 i) (numbers 0 (f .tasks));
     }
 
 abbrev pub plan : List ℕ → Plan

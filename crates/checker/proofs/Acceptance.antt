@@ -17,16 +17,16 @@ use Rattle.sheet.specs.Records.{Figures, figures, taskCount, coreCount}
 use Rattle.sheet.proofs.Ranges.{neither, in-range, range-in, both}
 use Rattle.sheet.proofs.Scans.{scan-clear, scan-clears, scan-skip, scan-second, scan-none, whole-clear, core-clear}
 use Rattle.fit.specs.Lists.{numbers, find, Each}
-use Rattle.fit.specs.Priority.{order}
+use Rattle.fit.specs.Priority.{order, isOn}
 use Rattle.fit.specs.Fits.{stretched, overloaded}
 use Rattle.fit.proofs.Finds.{find-none, none-find, find-some, findSome-none, none-findSome}
 use Rattle.fit.proofs.Lists.{each-of, each-both}
 use Rattle.fit.proofs.Priority.{order-members, order-count, order-rising}
 use Rattle.fit.proofs.Levels.{chain-multiples, multiples-chain, multiples-pairs, level-load, budget-within, within-period}
-use Rattle.checker.specs.Tests.{isMarked, taskSpares, coreSpares, isSet, badCore, isOn, isNone, bare, badFactor, badPivot, stretchedAt, orderOn, chainBreakOn, overloadedOn}
+use Rattle.checker.specs.Tests.{isMarked, taskSpares, coreSpares, isSet, badCore, isNone, bare, badFactor, badPivot, stretchedAt, orderOn, chainBreakOn, overloadedOn}
 use Rattle.checker.specs.Rules.{offset, frameRows, spareRows, taskRows, coreRows, fitRows, recordRows, rules}
 use Rattle.checker.specs.Verdict.{accepted, outcome, verdict}
-use Rattle.checker.specs.Accepted.{LoadAtMostOne, Framed, Spared, TasksInRange, CoresInRange, CoresFit, Fitting, Acceptable, Schedulable, CoreOf}
+use Rattle.checker.specs.Accepted.{LoadAtMostOne, Framed, SparesZero, TasksInRange, CoresInRange, CoresFit, Fitting, Acceptable, Schedulable, CoreOf}
 
 -- a table is clear exactly when each of its rows is
 row-clear : (k : ℕ) (o : Option ℕ) (rows : List Row) → o ≡ none → scan rows ≡ none → scan (k at o ∷ rows) ≡ none
@@ -287,7 +287,7 @@ to-table : (s : List ℕ) → Acceptable s → scan (rules s) ≡ none
 unfolding rules spareRows recordRows find
 to-table s t =
     let g : Fitting (figures s) = t .fitting in
-    let b : Spared s = t .spares in
+    let b : SparesZero s = t .spares in
     both-clear (frameRows s) _ (frame-keep s (t .frame))
     (both-clear (spareRows (taskCount s) (coreCount s) s (drop 8 s)) _
     (row-clear 6 _ _ (none-step (isSet s) 7 [] (not-set s 7 (b .header)) refl)

@@ -5,7 +5,8 @@ use mathlib.Core.Path.{_≡_, refl, sym, _∙_}
 use mathlib.Core.Bool.{true, false}
 use borrow.Author.Tests.{eq-eqb, ne-eqb}
 use Rattle.fit.proofs.Finds.{Left, find-hit, find-turn, find-end}
-use Rattle.checker.specs.Tests.{isOn, isNone, bare}
+use Rattle.fit.specs.Priority.{isOn}
+use Rattle.checker.specs.Tests.{isNone, bare}
 
 module _ (core : ℕ → ℕ) (n k i r : ℕ) (h : i < n) (l : Left (isOn core k) n i) (t : r ≡ core i) where
   pub bare-hit : r ≡ k → false ≡ bare n core k

@@ -8,14 +8,12 @@ use Rattle.sheet.specs.Numbers.{word}
 use Rattle.sheet.specs.Records.{Figures, figures, taskCount, coreCount}
 use Rattle.fit.specs.Lists.{Each, EachPair}
 use Rattle.fit.specs.Priority.{Above}
-use Rattle.fit.specs.Fits.{Multiple, Multiples, lastFactor, load, within}
+use Rattle.fit.specs.Fits.{Multiple, Multiples, load, exactLoad, fullLoad, within}
 use Rattle.checker.specs.Tests.{orderOn}
 
--- Q × L, with L "the last factor in priority order", is at least the load of core k: "Load at most one"
+-- "Load at most one", of core k
 unfoldable pub LoadAtMostOne : Figures → ℕ → Type 0
-LoadAtMostOne f k =
-    load (f .budget) (f .factor) (f .divisor k) (lastFactor (f .factor) 1 (orderOn f k)) (orderOn f k)
-    ≤ f .pivot k * lastFactor (f .factor) 1 (orderOn f k)
+LoadAtMostOne f k = exactLoad (f .budget) (f .factor) (f .divisor k) (orderOn f k) ≤ fullLoad (f .factor) (f .pivot k) (orderOn f k)
 
 -- rules 1 to 5: mark, version, counts and length
 pub record Framed (s : List ℕ) : Type 0 where
@@ -26,7 +24,7 @@ pub record Framed (s : List ℕ) : Type 0 where
   pub size : length s ≡ 8 + 10 * taskCount s + 8 * coreCount s
 
 -- rule 6: every spare byte is zero
-pub record Spared (s : List ℕ) : Type 0 where
+pub record SparesZero (s : List ℕ) : Type 0 where
   pub header : getD s 7 0 ≡ 0
   pub tasks : (i : ℕ) → i < taskCount s → getD (drop 8 s) (10 * i + 5) 0 ≡ 0
   pub cores : (k : ℕ) → k < coreCount s → (getD (drop 8 s) (10 * taskCount s + 8 * k + 2) 0 ≡ 0) × (getD (drop 8 s) (10 * taskCount s + 8 * k + 3) 0 ≡ 0)
@@ -59,7 +57,7 @@ pub record Fitting (f : Figures) : Type 0 where
 -- the sheet has its form and its figures fit
 pub record Acceptable (s : List ℕ) : Type 0 where
   pub frame : Framed s
-  pub spares : Spared s
+  pub spares : SparesZero s
   pub fitting : Fitting (figures s)
 
 -- What a dispatcher may rely on for a core with pivot Q and divisor D whose tasks in priority order are l; p, e and M are by task

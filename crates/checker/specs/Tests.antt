@@ -9,7 +9,7 @@ use lib.Dec.{leb, eqb}
 use Rattle.sheet.specs.Ranges.{outOf}
 use Rattle.sheet.specs.Records.{Figures}
 use Rattle.fit.specs.Lists.{numbers, find}
-use Rattle.fit.specs.Priority.{order}
+use Rattle.fit.specs.Priority.{isOn, order}
 use Rattle.fit.specs.Fits.{stretched, chainBreak, overloaded, within}
 
 -- "the letters T S H (hexadecimal 54 53 48)"
@@ -34,9 +34,6 @@ unfoldable pub badCore : ℕ → (ℕ → ℕ) → ℕ → Bool
 badCore c core i = leb c (core i)
 
 -- "a core without tasks", of n
-unfoldable pub isOn : (ℕ → ℕ) → ℕ → ℕ → Bool
-isOn core k i = eqb (core i) k
-
 unfoldable pub isNone : Option ℕ → Bool
 isNone none = true
 isNone (some i) = false

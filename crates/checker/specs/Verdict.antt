@@ -7,7 +7,7 @@ use Rattle.sheet.specs.Table.{Refused, scan}
 use Rattle.sheet.specs.Records.{taskCount, coreCount}
 use Rattle.checker.specs.Rules.{rules}
 use Rattle.checker.specs.declared.Verdict.{Verdict}
-use Rattle.checker.specs.declared.Verdict.the-variants.{Accepted, Refused as Turned}
+use Rattle.checker.specs.declared.Verdict.the-variants.{Accepted, Refused as Rejected}
 
 -- what the checker answers
 pub data Outcome : Type 0 where
@@ -25,4 +25,4 @@ verdict s = outcome (scan (rules s)) (taskCount s) (coreCount s)
 -- the code's answer as an outcome: a word is its number in document 01
 abbrev pub outcomeOf : Verdict → Outcome
 outcomeOf (Accepted n c) = accepted n c
-outcomeOf (Turned w p) = refused (numberOf w) p
+outcomeOf (Rejected w p) = refused (numberOf w) p

@@ -3,26 +3,36 @@
 -- Assumes nothing.
 use Prim.Native.Nat.{ℕ}
 use mathlib.Core.Path.{_≡_, refl, sym, ap, subst₂, _∙_}
-use mathlib.Core.Bool.{false}
+use mathlib.Core.Bool.{Bool, true, false, cond}
 use mathlib.Core.List.{List, [], _∷_}
 use native.Mathlib.Omega.{arith}
 use lib.ListN.{length, drop, length-append, length-drop}
 use lib.Seq.{length-take-le, take-at}
 use Rattle.fit.specs.Lists.{Each}
 use Rattle.timing.specs.declared.Task.{Task}
-use Rattle.timing.specs.Calls.{Call, release, finish, tick, Answer, served, idle, releaseAnswer, finishAnswer, answer, next, entry, log, run}
+use Rattle.timing.specs.Calls.{Call, release, finish, tick, Answer, served, idle, refused, releaseAnswer, finishAnswer, answer, next, entry, log, run}
 use Rattle.timing.specs.Form.{Fresh}
 use Rattle.timing.specs.OnTime.{count, refusedWith, isRefused}
 use Rattle.timing.specs.Serving.{nth, Foremost, AgeCounts}
 use Rattle.timing.specs.Tasks.{released, finished, used}
-use Rattle.timing.proofs.Steps.{Release, is-early, is-late, starts, release-view, Finish, is-quiet, ends, finish-view, changed-named, changed-pending, changed-answer, length-next}
+use Rattle.timing.proofs.Steps.{Release, is-early, is-late, starts, release-view, Finish, is-quiet, ends, finish-view, changed-named, changed-pending, changed-answer, length-next, refused-kept}
 use Rattle.timing.proofs.Form.{form-kept}
 use Rattle.dispatcher.specs.declared.Core.{Core}
-use Rattle.dispatcher.specs.State.{tasksOf, withTasks, InForm}
+use Rattle.dispatcher.specs.State.{tasksOf, withTasks, InForm, foreign}
 use Rattle.dispatcher.specs.Operations.{ask, step}
 use Rattle.dispatcher.proofs.Foreign.{form-foreign}
+use Rattle.dispatcher.proofs.Outcomes.{same-tasks}
 use Rattle.timing.proofs.First as timing-first
 use Rattle.timing.proofs.Age as timing-age
+
+-- A refused call hands the state back as given.
+pub refused-unaltered : (c : Call) (s : Core) (n p : ℕ) → ask c s ≡ refused n p → step c s ≡ s
+unfolding ask step
+refused-unaltered c s n p e = by (foreign s) e
+  where
+    by : (b : Bool) → cond b (refused 21 0) (answer c (tasksOf s)) ≡ refused n p → cond b s (withTasks s (next c (tasksOf s))) ≡ s
+    by true x = refl
+    by false x = ap (withTasks s) (refused-kept c (tasksOf s) n p x) ∙ same-tasks s
 
 -- one call on a state in form: what its tasks answer, and its tasks as they hand themselves on
 pub ask-form : (c : Call) (s : Core) → InForm s → ask c s ≡ answer c (tasksOf s)

@@ -64,7 +64,7 @@ missing q (t ∷ s) h = go (q t) refl h (missing q s)
         record { answers = λ f d. rw e (x .answers f d); changes = λ g. rw e (ap (λ l. t ∷ l) (x .changes g)) }
 
 -- a state with its own tasks, and with one of them changed
-same-tasks : (s : Core) → withTasks s (tasksOf s) ≡ s
+pub same-tasks : (s : Core) → withTasks s (tasksOf s) ≡ s
 unfolding withTasks
 same-tasks s = sym (state-is s (s .count) _ refl (sym (take-append-drop (s .count) (s .tasks))))
 

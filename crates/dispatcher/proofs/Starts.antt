@@ -25,7 +25,7 @@ use Rattle.fit.specs.Ring.{orderBy}
 use Rattle.fit.proofs.Priority.{order-members, order-count, order-rising}
 use Rattle.fit.proofs.Lists.{each-of}
 use Rattle.checker.specs.declared.Verdict.{Verdict}
-use Rattle.checker.specs.declared.Verdict.the-variants.{Accepted as Passed, Refused as Turned}
+use Rattle.checker.specs.declared.Verdict.the-variants.{Accepted as Passed, Refused as Rejected}
 use Rattle.checker.specs.Tests.{orderOn, withinOn}
 use Rattle.checker.specs.Verdict.{verdict, outcomeOf}
 use Rattle.checker.specs.Accepted.{CoreOf}
@@ -91,7 +91,7 @@ refused-timely s k z w p r q = record { on-time = λ a. absurd (let n : _≡_ {A
 
 module _ (s : List ℕ) (k : ℕ) (v : Verdict) (e : outcomeOf v ≡ verdict s) where
   -- 1 to 14
-  pub sheet-refused : (w : Refusal) (p : ℕ) (z : Core) (r : Step) → v ≡ Turned w p → z ≡ stateOf [] → r ≡ refusal z w p → SheetStart s k r
+  pub sheet-refused : (w : Refusal) (p : ℕ) (z : Core) (r : Step) → v ≡ Rejected w p → z ≡ stateOf [] → r ≡ refusal z w p → SheetStart s k r
   unfolding sheetAnswer sheetState
   sheet-refused w p z r x y q =
       let o = sym (ap outcomeOf x) ∙ e in

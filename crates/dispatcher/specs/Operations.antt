@@ -1,16 +1,16 @@
--- Document 01, "The dispatcher": release, finish and tick of a state. "All check 21 first."
+-- Document 01, "The dispatcher": release, finish and tick of a state. "All check 21 first".
 use mathlib.Core.Path.{_≡_}
 use mathlib.Core.Bool.{cond}
 use Rattle.sheet.specs.Refusals.{numberOf}
 use Rattle.timing.specs.Calls.{Call, Answer, accepted, served, idle, refused, answer, next}
 use Rattle.dispatcher.specs.declared.Core.{Core}
 use Rattle.dispatcher.specs.declared.Step.{Step}
-use Rattle.dispatcher.specs.declared.Answer.{Answer as Told}
+use Rattle.dispatcher.specs.declared.Answer.{Answer as CodeAnswer}
 use Rattle.dispatcher.specs.declared.Answer.the-variants.{Accepted, Served, Idle, Refused}
 use Rattle.dispatcher.specs.State.{tasksOf, withTasks, foreign}
 
 -- the code's answer as an answer of document 01: a word is its number
-abbrev pub answerOf : Told → Answer
+abbrev pub answerOf : CodeAnswer → Answer
 answerOf Accepted = accepted
 answerOf (Served j) = served j
 answerOf Idle = idle

@@ -1,16 +1,15 @@
 -- The figures of a core as the code hands them out.
 use mathlib.Core.Bool.{true, false}
 use mathlib.Core.Option.{Option, none, some}
-use mathlib.Core.List.{[]}
 use Rattle.fit.specs.Lists.{padded}
 use Rattle.figures.specs.declared.CoreFigures.{CoreFigures}
 use Rattle.figures.specs.declared.Outcome.{Outcome}
-use Rattle.figures.specs.Constructions.{Acceleration}
+use Rattle.figures.specs.Constructions.{Acceleration, noFigures}
 
 unfoldable pub written : Acceleration → CoreFigures
 written a = record { pivot = a .Q; divisor = a .D; factors = padded (a .factors) }
 
 -- the figures, or zeros where nothing passes
 unfoldable pub outcome : Option Acceleration → Outcome
-outcome none = record { passes = false; figures = written (record { Q = 0; D = 0; factors = [] }) }
+outcome none = record { passes = false; figures = written noFigures }
 outcome (some a) = record { passes = true; figures = written a }

@@ -13,6 +13,10 @@ pub record Acceleration : Type 0 where
   pub D : ℕ
   pub factors : List ℕ
 
+-- the figures where there are none
+abbrev pub noFigures : Acceleration
+noFigures = record { Q = 0; D = 0; factors = [] }
+
 -- m is a power of b
 unfoldable pub Power : ℕ → ℕ → Type 0
 Power b m = (k : ℕ) × (m ≡ b ^ k)

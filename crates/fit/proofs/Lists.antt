@@ -1,16 +1,17 @@
 -- Laws of lists: a property of each of a list and of each pair, sums, and how often a number stands in a list.
 -- Assumes nothing.
 use Prim.Native.Nat.{ℕ, zero, suc, _+_, _-_, _≤_, _<_, zero-le, suc-le-suc}
-use mathlib.Core.Path.{_≡_, refl, sym, ap, subst}
+use mathlib.Core.Path.{_≡_, refl, sym, ap, subst, _∙_}
 use mathlib.Core.Bool.{Bool, true, false, cond}
-use mathlib.Core.List.{List, [], _∷_, _++_}
+use mathlib.Core.List.{List, [], _∷_, _++_, append-assoc, append-nil}
 use native.Mathlib.Nat.{zero-add, add-zero, add-sub-of-le}
+use native.Mathlib.Numerals.{add-one}
 use native.Mathlib.Omega.{arith}
 use borrow.Author.Tests.{eqb-true}
 use lib.ListN.{length, take, drop, getD, replicate, length-append, length-take, length-drop, length-replicate}
 use lib.Seq.{take-all}
 use lib.Dec.{eqb}
-use Rattle.fit.specs.Lists.{at, padded, numbers, sum, select, occurs, Each, EachPair}
+use Rattle.fit.specs.Lists.{at, padded, numbers, joined, sum, select, occurs, Each, EachPair}
 
 -- a part from a place on is what is left from there, and a front has as many as it should
 pub part : (s : List ℕ) (a : ℕ) → take (length s - a) (drop a s) ≡ drop a s
@@ -178,3 +179,13 @@ select-length q (i ∷ l) = by (q i) (select-length q l)
     by : (b : Bool) → length (select q l) ≤ length l → length (cond b (i ∷ select q l) (select q l)) ≤ suc (length l)
     by true h = suc-le-suc h
     by false h = omega arith
+
+-- lists one after the other: those of two lists, and of one number more
+joined-append : (f : ℕ → List ℕ) (l m : List ℕ) → joined f (l ++ m) ≡ joined f l ++ joined f m
+unfolding joined
+joined-append f [] m = refl
+joined-append f (i ∷ l) m = ap (λ (t : List ℕ). f i ++ t) (joined-append f l m) ∙ sym (append-assoc (f i) (joined f l) (joined f m))
+
+pub joined-next : (f : ℕ → List ℕ) (i : ℕ) → joined f (numbers 0 (i + 1)) ≡ joined f (numbers 0 i) ++ f i
+unfolding joined
+joined-next f i = rw (add-one i, numbers-last 0 i, zero-add i) (joined-append f (numbers 0 i) (i ∷ []) ∙ rw (append-nil (f i)))

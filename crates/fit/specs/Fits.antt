@@ -35,9 +35,16 @@ lastFactor M d (i ∷ l) = lastFactor M (M i) l
 unfoldable pub load : (ℕ → ℕ) → (ℕ → ℕ) → ℕ → ℕ → List ℕ → ℕ
 load e M D L l = sum (λ i. e i * D * (L / M i)) l
 
--- Load above one (14): it is above Q × L. The factor before the first is 1, of which every factor is a multiple.
+-- the load with L of the list, and the load of a full core, Q × L. The factor before the first is 1, of which every factor is a multiple.
+abbrev pub exactLoad : (ℕ → ℕ) → (ℕ → ℕ) → ℕ → List ℕ → ℕ
+exactLoad e M D l = load e M D (lastFactor M 1 l) l
+
+abbrev pub fullLoad : (ℕ → ℕ) → ℕ → List ℕ → ℕ
+fullLoad M Q l = Q * lastFactor M 1 l
+
+-- Load above one (14): the load is above that of a full core.
 unfoldable pub overloaded : (ℕ → ℕ) → (ℕ → ℕ) → ℕ → ℕ → List ℕ → Bool
-overloaded e M Q D l = ltb (Q * lastFactor M 1 l) (load e M D (lastFactor M 1 l) l)
+overloaded e M Q D l = ltb (fullLoad M Q l) (exactLoad e M D l)
 
 -- "w is the whole part of Q × M / D."
 unfoldable pub within : ℕ → ℕ → ℕ → ℕ

@@ -4,7 +4,7 @@ use lib.Dec.{eqb}
 use mathlib.Core.Bool.{Bool, cond}
 use mathlib.Core.Option.{Option, none, some}
 use mathlib.Core.List.{List, [], _∷_, _++_}
-use lib.ListN.{length, getD, replicate}
+use lib.ListN.{length, getD, drop, replicate}
 
 -- what stands at a place of a list, and 0 past its end
 abbrev pub at : List ℕ → ℕ → ℕ
@@ -48,6 +48,15 @@ sum f (i ∷ l) = f i + sum f l
 unfoldable pub select : (ℕ → Bool) → List ℕ → List ℕ
 select q [] = []
 select q (i ∷ l) = cond (q i) (i ∷ select q l) (select q l)
+
+-- what f gives for each of a list, one after the other
+unfoldable pub joined : (ℕ → List ℕ) → List ℕ → List ℕ
+joined f [] = []
+joined f (i ∷ l) = f i ++ joined f l
+
+-- bytes laid over the front of a buffer, of which the rest stays as it was
+unfoldable pub over : List ℕ → List ℕ → List ℕ
+over s out = s ++ drop (length s) out
 
 -- how often a number stands in a list; two lists in which every number stands equally often are permutations of each other
 unfoldable pub occurs : ℕ → List ℕ → ℕ

@@ -1,4 +1,4 @@
--- Document 01, "The planner": a job list is "a list of 4-byte entries (p, e, two bytes each; a task's number is its place in the list)".
+-- Document 01, "The planner": a job list is "a list of 4-byte entries (p, e, two bytes each; a task's number is its place in the list, and in the sheet)".
 use Prim.Native.Nat.{ℕ, _+_, _*_, _/_, _%_, _≤_, _<_}
 use mathlib.Core.Path.{_≡_}
 use mathlib.Core.Bool.{not, _||_}

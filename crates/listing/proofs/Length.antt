@@ -14,7 +14,7 @@ use lib.Dec.{eqb}
 use Rattle.sheet.specs.Table.{Refused, Row, _at_, scan, whole, core}
 use Rattle.sheet.specs.Numbers.{word}
 use Rattle.sheet.specs.Records.{Figures, figures, taskCount, coreCount}
-use Rattle.fit.specs.Lists.{numbers, find, orElse, findSome, Each}
+use Rattle.fit.specs.Lists.{numbers, find, orElse, findSome, Each, joined}
 use Rattle.fit.specs.Fits.{chainBreak}
 use Rattle.fit.proofs.Lists.{each-of, each-append, numbers-length}
 use Rattle.fit.proofs.Priority.{order-members}
@@ -25,7 +25,7 @@ use Rattle.checker.specs.Verdict.{refused, outcome, verdict}
 use Rattle.checker.proofs.Acceptance.{accepted-exactly}
 use Rattle.listing.specs.Words.{space, lineFeed}
 use Rattle.listing.specs.Words as the
-use Rattle.listing.specs.Listing.{headerLine, taskLine, loadOf, coreLine, lines, sheetText, refusedLine, textOf, listingOf}
+use Rattle.listing.specs.Listing.{headerLine, taskLine, loadOf, coreLine, sheetText, refusedLine, textOf, listingOf}
 use Rattle.listing.proofs.Decimals.{field-short}
 use Rattle.listing.proofs.Figures.{within-small}
 use Rattle.listing.proofs.Laws.{load-most}
@@ -73,13 +73,13 @@ unfolding Each numbers
 numbers-in a zero = tt
 numbers-in a (suc n) = (omega arith, each-of (numbers (suc a) n) (λ i h. omega arith) (numbers-in (suc a) n))
 
-lines-short : (line : ℕ → List ℕ) (most : ℕ) (l : List ℕ) → Each (λ i. length (line i) ≤ most) l → length (lines line l) ≤ most * length l
-unfolding lines Each
+lines-short : (line : ℕ → List ℕ) (most : ℕ) (l : List ℕ) → Each (λ i. length (line i) ≤ most) l → length (joined line l) ≤ most * length l
+unfolding joined Each
 lines-short line most [] h = zero-le
 lines-short line most (i ∷ l) h =
     simp length-append (omega (arith, h .0, lines-short line most l (h .1), mul-suc most (length l)))
 
-all-lines : (line : ℕ → List ℕ) (most n : ℕ) → ((i : ℕ) → i < n → length (line i) ≤ most) → length (lines line (numbers 0 n)) ≤ most * n
+all-lines : (line : ℕ → List ℕ) (most n : ℕ) → ((i : ℕ) → i < n → length (line i) ≤ most) → length (joined line (numbers 0 n)) ≤ most * n
 all-lines line most n h =
     rw (numbers-length 0 n) at (lines-short line most (numbers 0 n) (each-of (numbers 0 n) (λ i q. h i (rw zero-add at q)) (numbers-in 0 n)))
 

@@ -1,20 +1,19 @@
--- The lines, as the code writes them: the numbers of the fields are the sheet's figures, and one line follows another.
+-- The joined, as the code writes them: the numbers of the fields are the sheet's figures, and one line follows another.
 -- Assumes nothing.
 use Prim.Native.Nat.{ℕ, _+_, _*_, _≤_}
-use mathlib.Core.Path.{_≡_, refl, sym, ap, _∙_}
-use mathlib.Core.List.{List, [], _∷_, _++_, append-assoc, append-nil}
+use mathlib.Core.Path.{_≡_, refl}
+use mathlib.Core.List.{List, _++_}
 use native.Mathlib.Omega.{arith}
-use native.Mathlib.Nat.{zero-add, mul-add, mul-one, mul-zero}
-use native.Mathlib.Numerals.{add-one}
+use native.Mathlib.Nat.{mul-add, mul-one, mul-zero}
 use lib.ListN.{length}
 use Rattle.sheet.specs.Records.{Figures}
-use Rattle.fit.specs.Lists.{numbers}
+use Rattle.fit.specs.Lists.{numbers, joined}
 use Rattle.fit.specs.Fits.{within}
-use Rattle.fit.proofs.Lists.{numbers-last}
+use Rattle.fit.proofs.Lists.{joined-next}
 use Rattle.checker.specs.Tests.{withinOn}
 use Rattle.listing.specs.Words.{space, lineFeed}
 use Rattle.listing.specs.Words as the
-use Rattle.listing.specs.Listing.{field, taskLine, loadOf, coreLine, lines}
+use Rattle.listing.specs.Listing.{field, taskLine, loadOf, coreLine}
 use Rattle.listing.specs.Steps.{Capped}
 use Rattle.listing.proofs.Writing.{capped-none, capped-join}
 
@@ -32,28 +31,17 @@ module _ (f : Figures) (out new : List ℕ) (at after most : ℕ) where
   core-line k q d x t eq ed ex = rw (eq, ed, ex) at t
 
 -- one more line
-lines-append : (line : ℕ → List ℕ) (l m : List ℕ) → lines line (l ++ m) ≡ lines line l ++ lines line m
-unfolding lines
-lines-append line [] m = refl
-lines-append line (i ∷ l) m = rw (lines-append line l m) (sym (append-assoc (line i) (lines line l) (lines line m)))
-
-lines-last : (line : ℕ → List ℕ) (i : ℕ) → lines line (numbers 0 (i + 1)) ≡ lines line (numbers 0 i) ++ line i
-unfolding lines
-lines-last line i =
-    rw (add-one i, numbers-last 0 i, zero-add i)
-    (lines-append line (numbers 0 i) (i ∷ []) ∙ ap (λ (t : List ℕ). lines line (numbers 0 i) ++ t) (append-nil (line i)))
-
 module _ (line : ℕ → List ℕ) (most : ℕ) (out : List ℕ) (at : ℕ) where
-  pub lines-start : (n : ℕ) → at + most * n ≤ length out → Capped (most * 0) out at (lines line (numbers 0 0)) out at
-  unfolding lines numbers
+  pub lines-start : (n : ℕ) → at + most * n ≤ length out → Capped (most * 0) out at (joined line (numbers 0 0)) out at
+  unfolding joined numbers
   lines-start n h = rw (mul-zero most) (capped-none out at (omega arith))
 
-  pub lines-turn : (mid new : List ℕ) (next after i : ℕ) → Capped most mid next (line i) new after → Capped (most * i) out at (lines line (numbers 0 i)) mid next → Capped (most * (i + 1)) out at (lines line (numbers 0 (i + 1))) new after
+  pub lines-turn : (mid new : List ℕ) (next after i : ℕ) → Capped most mid next (line i) new after → Capped (most * i) out at (joined line (numbers 0 i)) mid next → Capped (most * (i + 1)) out at (joined line (numbers 0 (i + 1))) new after
   lines-turn mid new next after i q p =
       let e : most * (i + 1) ≡ most * i + most = omega (arith, mul-add most i 1, mul-one most) in
-      rw (lines-last line i, e) (capped-join q p)
+      rw (joined-next line i, e) (capped-join q p)
 
-  pub lines-end : (new : List ℕ) (after i n : ℕ) → i ≤ n → n ≤ i → Capped (most * i) out at (lines line (numbers 0 i)) new after → Capped (most * n) out at (lines line (numbers 0 n)) new after
+  pub lines-end : (new : List ℕ) (after i n : ℕ) → i ≤ n → n ≤ i → Capped (most * i) out at (joined line (numbers 0 i)) new after → Capped (most * n) out at (joined line (numbers 0 n)) new after
   lines-end new after i n a b p =
       let e : i ≡ n = omega arith in
       rw e at p

@@ -14,16 +14,16 @@ use Rattle.sheet.specs.Refusals.{numberOf}
 use Rattle.sheet.specs.Numbers.{word}
 use Rattle.sheet.specs.Records.{Figures, figuresOf, figures, taskCount, coreCount}
 use Rattle.sheet.specs.declared.Refusal.{Refusal}
-use Rattle.fit.specs.Lists.{numbers}
+use Rattle.fit.specs.Lists.{numbers, joined, over}
 use Rattle.checker.specs.declared.Verdict.{Verdict}
-use Rattle.checker.specs.declared.Verdict.the-variants.{Accepted, Refused as Turned}
+use Rattle.checker.specs.declared.Verdict.the-variants.{Accepted, Refused as Rejected}
 use Rattle.checker.specs.Accepted.{Acceptable, Fitting}
 use Rattle.checker.specs.Verdict.{accepted, verdict, outcomeOf}
 use Rattle.checker.proofs.Acceptance.{accepted-exactly}
 use Rattle.fit.proofs.Lists.{part}
 use Rattle.listing.specs.declared.Listed.{Listed}
 use Rattle.listing.specs.declared.Listed.the-variants.{Written}
-use Rattle.listing.specs.Listing.{headerLine, taskLine, coreLine, lines, sheetText, refusedLine, textOf, listingOf}
+use Rattle.listing.specs.Listing.{headerLine, taskLine, coreLine, sheetText, refusedLine, textOf, listingOf}
 use Rattle.listing.specs.Steps.{Put, Capped}
 use Rattle.listing.specs.Answers.{written, refused, listed, holding, answerOf}
 use Rattle.listing.proofs.Writing.{put-join}
@@ -66,13 +66,13 @@ module _ (s : List ℕ) (n c : ℕ) (v : verdict s ≡ accepted n c) where
 
   -- the text is the header, the tasks and the cores
   pub sheet-put : (f : Figures) (version : ℕ) (out mid mid₂ new : List ℕ) (next next₂ after : ℕ) → f ≡ figures s → version ≡ word s 3
-      → Capped (76 * c) mid₂ next₂ (lines (coreLine f) (numbers 0 c)) new after
-      → Capped (114 * n) mid next (lines (taskLine f) (numbers 0 n)) mid₂ next₂
+      → Capped (76 * c) mid₂ next₂ (joined (coreLine f) (numbers 0 c)) new after
+      → Capped (114 * n) mid next (joined (taskLine f) (numbers 0 n)) mid₂ next₂
       → Capped 57 out 0 (headerLine version n c) mid next
       → Capped 8192 out 0 (sheetText (word s 3) (figures s)) new after
   unfolding sheetText
   sheet-put f version out mid mid₂ new next next₂ after e ev r q p =
-      let w : Put out 0 (headerLine version n c ++ lines (taskLine f) (numbers 0 n) ++ lines (coreLine f) (numbers 0 c)) new after = put-join (r .put) (put-join (q .put) (p .put)) in
+      let w : Put out 0 (headerLine version n c ++ joined (taskLine f) (numbers 0 n) ++ joined (coreLine f) (numbers 0 c)) new after = put-join (r .put) (put-join (q .put) (p .put)) in
       record { put = rw (e, ev, tasks-same, cores-same) at w; cap = omega (arith, tasks-few, cores-few, p .cap, q .cap, r .cap) }
 
 -- the ways out: an output that is too short, and a text that is written
@@ -82,7 +82,7 @@ module _ (s out : List ℕ) (h : length out < 8192) where
   tight-answer = rw (lt-ltb (length out) 8192 h)
 
   pub tight-bytes : out ≡ holding s out
-  unfolding holding
+  unfolding holding over
   tight-bytes = rw (lt-ltb (length out) 8192 h)
 
 module _ (s out new text : List ℕ) (after : ℕ) (h : 8192 ≤ length out) (e : listingOf s ≡ text) (p : Put out 0 text new after) where
@@ -91,13 +91,13 @@ module _ (s out new text : List ℕ) (after : ℕ) (h : 8192 ≤ length out) (e 
   written-answer = rw (le-ltb (length out) 8192 h, e) (ap written (p .next ∙ zero-add (length text)))
 
   written-bytes : new ≡ holding s out
-  unfolding holding
+  unfolding holding over
   written-bytes =
       let l : after ≡ length text = p .next ∙ zero-add (length text) in
       rw (le-ltb (length out) 8192 h, e) (rw l at (p .bytes))
 
 module _ (s out new : List ℕ) (r : Verdict) (after most : ℕ) (h : 8192 ≤ length out) (v : outcomeOf r ≡ verdict s) where
-  module _ (w : Refusal) (number place : ℕ) (q : r ≡ Turned w place) (k : number ≡ numberOf w) (p : Capped most out 0 (refusedLine number place) new after) where
+  module _ (w : Refusal) (number place : ℕ) (q : r ≡ Rejected w place) (k : number ≡ numberOf w) (p : Capped most out 0 (refusedLine number place) new after) where
     refused-text : listingOf s ≡ refusedLine number place
     unfolding listingOf textOf
     refused-text = rw (← v, q, k)
@@ -126,7 +126,7 @@ module _ (s out new : List ℕ) (r : Verdict) (after most : ℕ) (h : 8192 ≤ l
 -- a text that is written lies within its buffer, and that front of it is as long
 module _ (s out new : List ℕ) (r : Listed) (x : ℕ) (q : r ≡ Written x) (e : answerOf r ≡ listed s out) (b : new ≡ holding s out) (k : length new ≡ length out) where
   pub listed-room : x ≤ length new
-  unfolding listed holding
+  unfolding listed holding over
   listed-room = by (ltb (length out) 8192) (ap answerOf (sym q) ∙ e) b
     where
       by : (t : Bool) → written x ≡ cond t (refused 16 0) (written (length (listingOf s))) → new ≡ cond t out (listingOf s ++ drop (length (listingOf s)) out) → x ≤ length new

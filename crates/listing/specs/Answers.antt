@@ -1,9 +1,10 @@
 -- What the call answers, and what the lent buffer then holds.
-use Prim.Native.Nat.{ℕ, _+_}
+use Prim.Native.Nat.{ℕ}
 use mathlib.Core.Bool.{cond}
-use mathlib.Core.List.{List, _++_}
-use lib.ListN.{length, drop}
+use mathlib.Core.List.{List}
+use lib.ListN.{length}
 use lib.Dec.{ltb}
+use Rattle.fit.specs.Lists.{over}
 use Rattle.listing.specs.declared.Listed.{Listed}
 use Rattle.listing.specs.declared.Listed.the-variants.{Written, Tight}
 use Rattle.listing.specs.Listing.{listingOf}
@@ -19,7 +20,7 @@ listed s out = cond (ltb (length out) 8192) (refused 16 0) (written (length (lis
 
 -- the text stands at the front, and the bytes past it keep what they held; a refusal writes no byte
 unfoldable pub holding : List ℕ → List ℕ → List ℕ
-holding s out = cond (ltb (length out) 8192) out (listingOf s ++ drop (length (listingOf s)) out)
+holding s out = cond (ltb (length out) 8192) out (over (listingOf s) out)
 
 -- the code's answer: Tight is 16 with place 0
 abbrev pub answerOf : Listed → Answer

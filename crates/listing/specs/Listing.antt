@@ -3,8 +3,8 @@ use Prim.Native.Nat.{ℕ, _*_, _/_}
 use mathlib.Core.List.{List, [], _∷_, _++_}
 use Rattle.sheet.specs.Numbers.{word}
 use Rattle.sheet.specs.Records.{Figures, figures}
-use Rattle.fit.specs.Lists.{numbers}
-use Rattle.fit.specs.Fits.{load, lastFactor}
+use Rattle.fit.specs.Lists.{numbers, joined}
+use Rattle.fit.specs.Fits.{exactLoad, fullLoad}
 use Rattle.checker.specs.Tests.{orderOn, withinOn}
 use Rattle.checker.specs.Verdict.{Outcome, accepted, refused, verdict}
 use Rattle.listing.specs.Decimal.{decimal}
@@ -33,11 +33,9 @@ taskLine f i =
 unfoldable pub thousandths : ℕ → ℕ → ℕ
 thousandths load full = 1000 * load / full
 
--- '"load" is the load in thousandths, rounded down': the exact load of core k, which is full at Q × L
+-- '"load" is the load in thousandths, rounded down', of core k
 unfoldable pub loadOf : Figures → ℕ → ℕ
-loadOf f k =
-    thousandths (load (f .budget) (f .factor) (f .divisor k) (lastFactor (f .factor) 1 (orderOn f k)) (orderOn f k))
-    (f .pivot k * lastFactor (f .factor) 1 (orderOn f k))
+loadOf f k = thousandths (exactLoad (f .budget) (f .factor) (f .divisor k) (orderOn f k)) (fullLoad (f .factor) (f .pivot k) (orderOn f k))
 
 unfoldable pub coreLine : Figures → ℕ → List ℕ
 coreLine f k =
@@ -46,17 +44,12 @@ coreLine f k =
     ++ field the.divisor (f .divisor k) space
     ++ field the.load (loadOf f k) lineFeed
 
--- one line for each of a list of numbers
-unfoldable pub lines : (ℕ → List ℕ) → List ℕ → List ℕ
-lines line [] = []
-lines line (i ∷ l) = line i ++ lines line l
-
 -- the header, the tasks by number, the cores by number
 unfoldable pub sheetText : ℕ → Figures → List ℕ
 sheetText version f =
     headerLine version (f .tasks) (f .cores)
-    ++ lines (taskLine f) (numbers 0 (f .tasks))
-    ++ lines (coreLine f) (numbers 0 (f .cores))
+    ++ joined (taskLine f) (numbers 0 (f .tasks))
+    ++ joined (coreLine f) (numbers 0 (f .cores))
 
 -- "A refused sheet prints one line"
 unfoldable pub refusedLine : ℕ → ℕ → List ℕ

@@ -6,12 +6,12 @@ ghost use mathlib.Core.List.{[], _∷_};
 ghost use lib.ListN.{length};
 ghost use Rattle.sheet.specs.Numbers.{word};
 ghost use Rattle.sheet.specs.Records.{figuresOf, figures};
-ghost use Rattle.fit.specs.Lists.{numbers};
+ghost use Rattle.fit.specs.Lists.{numbers, joined};
 ghost use Rattle.fit.specs.Fits.{within};
 ghost use Rattle.checker.specs.Accepted.{Fitting};
 ghost use Rattle.checker.specs.Verdict.{verdict, accepted};
 ghost use Rattle.listing.specs.Decimal.{decimal};
-ghost use Rattle.listing.specs.Listing.{field, headerLine, taskLine, thousandths, loadOf, coreLine, lines, sheetText, refusedLine};
+ghost use Rattle.listing.specs.Listing.{field, headerLine, taskLine, thousandths, loadOf, coreLine, sheetText, refusedLine};
 ghost use Rattle.listing.specs.Steps.{Put, Capped};
 ghost use Rattle.listing.specs.Answers.{listed, holding, answerOf};
 use checker::Verdict;
@@ -75,7 +75,7 @@ fn put_field(out: &mut [u8], at: usize, text: &[u8], x: u32, end: u8) -> usize
     put_byte(out, next, end)
 }
 
-// The lines, of 2, 3, 6 and 4 fields.
+// The joined, of 2, 3, 6 and 4 fields.
 
 fn put_refused(out: &mut [u8], number: u8, place: u16) -> usize
     requires { ⌜ 38 ≤ length (now out) ⌝ }
@@ -121,7 +121,7 @@ fn put_task(out: &mut [u8], at: usize, tasks: &[u8], cores: &[u8], n: u8, c: u8,
 
 fn put_tasks(out: &mut [u8], at: usize, tasks: &[u8], cores: &[u8], n: u8, c: u8) -> usize
     requires { ⌜ Fitting (figuresOf n c (now tasks) (now cores)) × (at + 114 * n ≤ length (now out)) ⌝ }
-    ensures { λ r. ⌜ Capped (114 * n) (now (out .entry)) at (lines (taskLine (figuresOf n c (now (tasks .entry)) (now (cores .entry)))) (numbers 0 n)) (now (out .exit)) r ⌝ }
+    ensures { λ r. ⌜ Capped (114 * n) (now (out .entry)) at (joined (taskLine (figuresOf n c (now (tasks .entry)) (now (cores .entry)))) (numbers 0 n)) (now (out .exit)) r ⌝ }
 {
     let mut next = at;
     let mut i = 0;
@@ -172,7 +172,7 @@ fn put_core(out: &mut [u8], at: usize, tasks: &[u8], cores: &[u8], n: u8, c: u8,
 
 fn put_cores(out: &mut [u8], at: usize, tasks: &[u8], cores: &[u8], n: u8, c: u8) -> usize
     requires { ⌜ Fitting (figuresOf n c (now tasks) (now cores)) × (n ≤ 64) × (at + 76 * c ≤ length (now out)) ⌝ }
-    ensures { λ r. ⌜ Capped (76 * c) (now (out .entry)) at (lines (coreLine (figuresOf n c (now (tasks .entry)) (now (cores .entry)))) (numbers 0 c)) (now (out .exit)) r ⌝ }
+    ensures { λ r. ⌜ Capped (76 * c) (now (out .entry)) at (joined (coreLine (figuresOf n c (now (tasks .entry)) (now (cores .entry)))) (numbers 0 c)) (now (out .exit)) r ⌝ }
 {
     let mut next = at;
     let mut k = 0;

@@ -13,7 +13,7 @@ use lib.Seq.{drop-at, getD-append-add}
 use lib.Dec.{eqb}
 use Rattle.sheet.specs.Numbers.{word, long}
 use Rattle.sheet.specs.Records.{Figures, figures}
-use Rattle.fit.specs.Lists.{numbers, occurs, Each, EachPair, at, placeOf}
+use Rattle.fit.specs.Lists.{numbers, occurs, Each, EachPair, at, placeOf, joined}
 use Rattle.fit.specs.Fits.{stretched, overloaded}
 use Rattle.fit.proofs.Lists.{each-of, each-both, each-occurs}
 use Rattle.fit.proofs.Priority.{order-members, order-rising, order-holds, order-ext}
@@ -28,7 +28,7 @@ use Rattle.checker.specs.Verdict.{verdict, accepted}
 use Rattle.checker.proofs.Acceptance.{accepted-exactly}
 use Rattle.planner.specs.declared.Assignment.{Assignment}
 use Rattle.planner.specs.FirstFit.{coreSet, coreFigures, isSome}
-use Rattle.planner.specs.Sheet.{two, four, header, taskRecord, coreRecord, records, orZeros, figuresFor, factorFor, sheetOf}
+use Rattle.planner.specs.Sheet.{two, four, header, taskRecord, coreRecord, orZeros, figuresFor, factorFor, sheetOf}
 use Rattle.planner.proofs.Settling.{Settled}
 use Rattle.planner.proofs.Writing.{records-length}
 use Rattle.planner.proofs.Decoding.{record-at, record-word, record-long, task-period, task-budget, task-factor, core-pivot, core-divisor}
@@ -124,10 +124,10 @@ module _ (p e : ℕ → ℕ) (n limit : ℕ) (a : Assignment) (small : limit ≤
   core k = coreRecord (Q k) (D k)
 
   tasks : List ℕ
-  tasks = records task (numbers 0 n)
+  tasks = joined task (numbers 0 n)
 
   cores : List ℕ
-  cores = records core (numbers 0 (a .cores))
+  cores = joined core (numbers 0 (a .cores))
 
   sheet : List ℕ
   sheet = header n (a .cores) ++ (tasks ++ cores)

@@ -15,6 +15,7 @@ use lib.Dec.{ltb}
 use Rattle.sheet.specs.declared.Found.{Found}
 use Rattle.sheet.specs.declared.Found.the-variants.{At, Nothing}
 use Rattle.sheet.specs.Table.{foundOf}
+use Rattle.fit.specs.Priority.{isOn}
 use Rattle.fit.specs.declared.Order.{Order}
 use Rattle.fit.specs.Lists.{numbers, find, select, at}
 use Rattle.fit.specs.Ring.{orderBy}
@@ -31,7 +32,7 @@ use Rattle.planner.specs.declared.Assignment.{Assignment}
 use Rattle.planner.specs.declared.Fitted.{Fitted}
 use Rattle.planner.specs.declared.TaskSet.{TaskSet}
 use Rattle.planner.specs.FirstFit.{rotate, unassigned, coreSet, coreFigures, isSome, takes, chosen, coreFor, assign, placed, unplaced, onward, firstFit}
-use Rattle.planner.specs.Steps.{Prioritized, on, Gathered, fitBy, fitted}
+use Rattle.planner.specs.Steps.{Prioritized, Gathered, fitBy, fitted}
 use Rattle.fit.proofs.Lists.{part}
 
 -- the priority order has at most 64 tasks
@@ -40,8 +41,8 @@ unfolding orderBy
 prioritized-few l order p = rw (p .tasks) (omega (arith, p .few, order-count (jobPeriod l) (λ i. 0) 0 (jobCount l)))
 
 -- the tasks of a core, picked out of it
-pub picked : (l order core : List ℕ) (k : ℕ) → Prioritized l order → select (on core k) order ≡ coreSet (jobPeriod l) (jobCount l) core k
-unfolding orderBy coreSet on
+pub picked : (l order core : List ℕ) (k : ℕ) → Prioritized l order → select (isOn (at core) k) order ≡ coreSet (jobPeriod l) (jobCount l) core k
+unfolding orderBy coreSet isOn
 picked l order core k p = rw (p .tasks) (select-order (jobPeriod l) (at core) k (jobCount l))
 
 -- a list of tasks in an array, and what was gathered for it
@@ -54,7 +55,7 @@ ordered-room l x o h e = omega (arith, h .count)
 pub ordered-front : (l x : List ℕ) (o : Order) → Ordered l o → length x ≡ 64 → o .count ≡ length (take (o .count) x)
 ordered-front l x o h e = simp length-take (omega (arith, h .count))
 
-pub figures-found : (l order core : List ℕ) (k : ℕ) (o : Order) (s : TaskSet) (r : Outcome) → Prioritized l order → Ordered (select (on core k) order) o → Gathered l (take (o .count) (o .tasks)) s → r ≡ outcome (firstPassing (take (o .count) (s .periods)) (take (o .count) (s .budgets))) → r ≡ outcome (coreFigures (jobPeriod l) (jobBudget l) (jobCount l) core k)
+pub figures-found : (l order core : List ℕ) (k : ℕ) (o : Order) (s : TaskSet) (r : Outcome) → Prioritized l order → Ordered (select (isOn (at core) k) order) o → Gathered l (take (o .count) (o .tasks)) s → r ≡ outcome (firstPassing (take (o .count) (s .periods)) (take (o .count) (s .budgets))) → r ≡ outcome (coreFigures (jobPeriod l) (jobBudget l) (jobCount l) core k)
 unfolding coreFigures
 figures-found l order core k o s r p h g e = e ∙ ap outcome (ap₂ firstPassing (front (s .periods) (jobPeriod l) (g .periods)) (front (s .budgets) (jobBudget l) (g .budgets)))
   where

@@ -10,13 +10,14 @@ use borrow.Author.Tests.{not-true, not-false, ne-eqb}
 use lib.ListN.{length, take, drop, getD, set, replicate, length-set, drop-of-length-le}
 use lib.Seq.{take-suc, take-suc-set, take-all, drop-cons, set-out, getD-set-other}
 use lib.Dec.{leb, eqb}
+use Rattle.fit.specs.Priority.{isOn}
 use Rattle.fit.specs.Lists.{select, at}
 use Rattle.sheet.proofs.Past.{past}
 use Rattle.fit.proofs.Lists.{zeros}
 use Rattle.fit.specs.Answers.{Ordered}
 use Rattle.jobs.specs.Jobs.{jobPeriod, jobBudget}
 use Rattle.planner.specs.Plan.{badStart}
-use Rattle.planner.specs.Steps.{Pushed, on, Gathered, spread}
+use Rattle.planner.specs.Steps.{Pushed, Gathered, spread}
 
 -- past the end of an array there is 0, and a store changes nothing
 pub read-past : (l : List ℕ) (i : ℕ) → length l ≡ 64 → 64 ≤ i → 0 ≡ getD l i 0
@@ -56,8 +57,8 @@ pub record Picked (q : ℕ → Bool) (order : List ℕ) (count j : ℕ) (list : 
 pub pick-start : (q : ℕ → Bool) (order : List ℕ) → Picked q order 0 0 (replicate 64 0)
 pick-start q order = record { size = refl; small = omega arith; left = refl; rest = λ i h. zeros 64 i }
 
-pub pick-turn : (core : List ℕ) (k : ℕ) (order : List ℕ) (count j x r : ℕ) (list new : List ℕ) → j < length order → Picked (on core k) order count j list → x ≡ at core (getD order j 0) → length new ≡ length list → Pushed list count (getD order j 0) (eqb x k) new r → Picked (on core k) order r (j + 1) new
-unfolding select on
+pub pick-turn : (core : List ℕ) (k : ℕ) (order : List ℕ) (count j x r : ℕ) (list new : List ℕ) → j < length order → Picked (isOn (at core) k) order count j list → x ≡ at core (getD order j 0) → length new ≡ length list → Pushed list count (getD order j 0) (eqb x k) new r → Picked (isOn (at core) k) order r (j + 1) new
+unfolding select isOn
 pick-turn core k order count j x r list new h p e len t =
     record {
       size = len ∙ p .size;
@@ -70,7 +71,7 @@ pick-turn core k order count j x r list new h p e len t =
     i = getD order j 0
 
     later : List ℕ
-    later = select (on core k) (drop (suc j) order)
+    later = select (isOn (at core) k) (drop (suc j) order)
 
     by : (b : Bool) → take count list ++ cond b (i ∷ later) later ≡ cond b (take count list ++ i ∷ []) (take count list) ++ later
     by true = sym (append-assoc (take count list) (i ∷ []) later)

@@ -12,7 +12,8 @@ use Rattle.checker.specs.Verdict.{verdict, accepted}
 use Rattle.checker.proofs.Acceptance.{accepted-exactly}
 use Rattle.planner.specs.declared.Planned.{Planned}
 use Rattle.planner.specs.declared.Planned.the-variants.{Written}
-use Rattle.planner.specs.Plan.{written, unless, planRows, fitOf, sheetFor, planOutcome, over, laidOver, planOutput, outcomeOf, Accepting}
+use Rattle.fit.specs.Lists.{over}
+use Rattle.planner.specs.Plan.{written, unless, planRows, fitOf, sheetFor, planOutcome, laidOver, planOutput, outcomeOf, Accepting}
 
 module _ (r : Planned) (n c s : ℕ) (jobs out new : List ℕ) (limit start : ℕ) (e : r ≡ Written n c s) (h : outcomeOf r ≡ planOutcome jobs limit start (length out)) (o : new ≡ planOutput jobs limit start out) where
   pub sheet-inside : s ≤ length new

@@ -20,8 +20,8 @@ use Rattle.sheet.proofs.Scans.{scan-first, scan-second, scan-clears, scan-clear
 use Rattle.fit.specs.declared.By.{By}
 use Rattle.fit.specs.declared.By.the-variants.{Period, Ring}
 use Rattle.fit.specs.declared.Order.{Order}
-use Rattle.fit.specs.Lists.{numbers, select, at}
-use Rattle.fit.specs.Priority.{tasksOn}
+use Rattle.fit.specs.Lists.{numbers, select, at, over}
+use Rattle.fit.specs.Priority.{tasksOn, isOn}
 use Rattle.fit.proofs.Lists.{numbers-length}
 use Rattle.fit.specs.Ring.{keyOf, orderBy}
 use Rattle.fit.specs.Answers.{Ordered}
@@ -32,7 +32,7 @@ use Rattle.checker.specs.Verdict.{verdict, accepted}
 use Rattle.planner.specs.declared.Fitted.{Fitted}
 use Rattle.planner.specs.FirstFit.{rotate, unassigned, placed, unplaced, firstFit}
 use Rattle.planner.specs.Sheet.{sheetOf}
-use Rattle.planner.specs.Plan.{fitOf, badStart, noFit, callRows, planRows, sheetFor, coresFor, written, refused, unless, planOutcome, over, laidOver, planOutput}
+use Rattle.planner.specs.Plan.{fitOf, badStart, noFit, callRows, planRows, sheetFor, coresFor, written, refused, unless, planOutcome, laidOver, planOutput}
 use Rattle.planner.specs.Steps.{Prioritized, Assigned, fitBy, fitted}
 use Rattle.planner.proofs.Settling.{fit-settled}
 use Rattle.planner.proofs.Accepting.{sheet-accepted}
@@ -44,7 +44,7 @@ all-listed by l n o e few h =
     rw all at h
 
 all-sorted : (by : By) (p : ℕ → ℕ) (n : ℕ) → length (orderBy by p n) ≡ n
-unfolding orderBy tasksOn select
+unfolding orderBy tasksOn select isOn
 all-sorted by p n = order-length (keyOf by p) (λ i. 0) 0 n ∙ ap length (all 0 n) ∙ numbers-length 0 n
   where
     all : (a m : ℕ) → select (λ i. eqb 0 0) (numbers a m) ≡ numbers a m

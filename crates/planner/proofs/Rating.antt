@@ -13,6 +13,7 @@ use lib.Arith.{lt-of-le-ne}
 use lib.Dec.{eqb}
 use lib.ListN.{length, take, set, length-set}
 use lib.Seq.{getD-set-same, getD-set-other}
+use Rattle.fit.specs.Priority.{isOn}
 use Rattle.fit.specs.declared.Order.{Order}
 use Rattle.fit.specs.Lists.{select, occurs, Each, EachPair, at, placeOf}
 use Rattle.fit.specs.Answers.{Ordered}
@@ -27,7 +28,7 @@ use Rattle.figures.specs.Answers.{written, outcome}
 use Rattle.planner.specs.declared.Assignment.{Assignment}
 use Rattle.planner.specs.FirstFit.{coreSet, coreFigures}
 use Rattle.planner.specs.Sheet.{orZeros, figuresFor, factorFor}
-use Rattle.planner.specs.Steps.{Prioritized, Assigned, on, spread, Rated}
+use Rattle.planner.specs.Steps.{Prioritized, Assigned, spread, Rated}
 use Rattle.planner.proofs.Fitting.{picked}
 
 -- what spreading leaves at a number that is not listed, and at one that is
@@ -74,7 +75,7 @@ pub rate-start : (l core pivots divisors factors : List ℕ) → length pivots �
 rate-start l core pivots divisors factors a b c =
     record { pivot-size = a; divisor-size = b; factor-size = c; pivot = λ j h. absurd (omega arith); divisor = λ j h. absurd (omega arith); factor = λ i h q. absurd (omega arith) }
 
-module _ (l order core : List ℕ) (k : ℕ) (pivots divisors factors : List ℕ) (o : Order) (r : Outcome) (pr : Prioritized l order) (d : Rating l core k pivots divisors factors) (h : Ordered (select (on core k) order) o) (e : r ≡ outcome (coreFigures (jobPeriod l) (jobBudget l) (jobCount l) core k)) where
+module _ (l order core : List ℕ) (k : ℕ) (pivots divisors factors : List ℕ) (o : Order) (r : Outcome) (pr : Prioritized l order) (d : Rating l core k pivots divisors factors) (h : Ordered (select (isOn (at core) k) order) o) (e : r ≡ outcome (coreFigures (jobPeriod l) (jobBudget l) (jobCount l) core k)) where
   own : Acceleration
   own = orZeros (coreFigures (jobPeriod l) (jobBudget l) (jobCount l) core k)
 

@@ -2,20 +2,19 @@
 -- Assumes nothing.
 use Prim.Native.Nat.{ℕ, zero, suc, _+_, _-_, _*_, _≤_, _<_}
 use mathlib.Core.Path.{_≡_, refl, sym, ap, ap₂, _∙_}
-use mathlib.Core.List.{List, [], _∷_, _++_, append-assoc, append-nil}
+use mathlib.Core.List.{List, [], _++_, append-assoc, append-nil}
 use native.Mathlib.Nat.{zero-add, mul-suc, mul-le-mul-left}
 use native.Mathlib.Numerals.{add-one}
 use native.Mathlib.Omega.{arith}
 use lib.ListN.{length, take, drop, getD, length-append, length-drop, drop-of-length-le}
 use lib.Seq.{sets, sets-eq, drop-drop, take-at, drop-at}
 use borrow.Rule.Slice.PartMut.{putMid}
-use Rattle.fit.specs.Lists.{numbers}
-use Rattle.fit.proofs.Lists.{numbers-last, part}
+use Rattle.fit.specs.Lists.{numbers, joined, over}
+use Rattle.fit.proofs.Lists.{part, joined-next}
 use Rattle.jobs.specs.Jobs.{jobCount, jobPeriod, jobBudget}
 use Rattle.planner.specs.declared.Assignment.{Assignment}
 use Rattle.planner.specs.declared.Rates.{Rates}
-use Rattle.planner.specs.Sheet.{two, four, header, taskRecord, coreRecord, records, figuresFor, factorFor, sheetOf}
-use Rattle.planner.specs.Plan.{over}
+use Rattle.planner.specs.Sheet.{two, four, header, taskRecord, coreRecord, figuresFor, factorFor, sheetOf}
 use Rattle.planner.specs.Steps.{Prioritized, Assigned, Rated, taskBytes, coreBytes}
 
 -- stores from the front on
@@ -41,28 +40,19 @@ over-next s t l xs ys a e room h q =
 
 -- records of one size w
 module _ (f : ℕ → List ℕ) (w : ℕ) (same : (i : ℕ) → length (f i) ≡ w) where
-  records-append : (xs ys : List ℕ) → records f (xs ++ ys) ≡ records f xs ++ records f ys
-  unfolding records
-  records-append [] ys = refl
-  records-append (x ∷ xs) ys = ap (λ (t : List ℕ). f x ++ t) (records-append xs ys) ∙ sym (append-assoc (f x) (records f xs) (records f ys))
-
-  pub records-length : (a n : ℕ) → length (records f (numbers a n)) ≡ w * n
-  unfolding records numbers
+  pub records-length : (a n : ℕ) → length (joined f (numbers a n)) ≡ w * n
+  unfolding joined numbers
   records-length a zero = omega arith
   records-length a (suc n) = simp length-append (omega (arith, same a, records-length (suc a) n, mul-suc w n))
-
-  records-next : (i : ℕ) → records f (numbers 0 (i + 1)) ≡ records f (numbers 0 i) ++ f i
-  unfolding records
-  records-next i = rw (add-one i, numbers-last 0 i, zero-add i) (records-append (numbers 0 i) (i ∷ []) ∙ rw (append-nil (f i)))
 
 -- the first i records are laid over a part
 pub record Laid (f : ℕ → List ℕ) (w : ℕ) (before : List ℕ) (i at : ℕ) (now : List ℕ) : Type 0 where
   pub place : at ≡ w * i
   pub size : length now ≡ length before
-  pub bytes : now ≡ over (records f (numbers 0 i)) before
+  pub bytes : now ≡ over (joined f (numbers 0 i)) before
 
 pub lay-start : (f : ℕ → List ℕ) (w : ℕ) (l : List ℕ) → Laid f w l 0 0 l
-unfolding over records numbers
+unfolding over joined numbers
 lay-start f w l = record { place = omega arith; size = refl; bytes = refl }
 
 module _ (f : ℕ → List ℕ) (w : ℕ) (same : (i : ℕ) → length (f i) ≡ w) (n i at : ℕ) (l xs ys : List ℕ) (h : i < n) (room : w * n ≤ length l) (d : Laid f w l i at xs) where
@@ -71,10 +61,10 @@ module _ (f : ℕ → List ℕ) (w : ℕ) (same : (i : ℕ) → length (f i) ≡
 
   lay-turn : ys ≡ over (f i) (take (length xs - at) (drop at xs)) → Laid f w l (i + 1) (at + w) (putMid at (length xs - at) xs ys)
   lay-turn q =
-      let bytes : putMid at (length xs - at) xs ys ≡ over (records f (numbers 0 (i + 1))) l = over-next (records f (numbers 0 i)) (f i) l xs ys at (records-length f w same 0 i ∙ sym (d .place)) (omega (arith, fits, d .place, d .size)) (d .bytes) q ∙ ap (λ (s : List ℕ). over s l) (sym (records-next f w same i)) in
-      record { place = omega (arith, d .place, mul-suc w i, add-one i); size = rw bytes (length-over (records f (numbers 0 (i + 1))) l (omega (arith, fits, d .size, records-length f w same 0 (i + 1), mul-suc w i))); bytes = bytes }
+      let bytes : putMid at (length xs - at) xs ys ≡ over (joined f (numbers 0 (i + 1))) l = over-next (joined f (numbers 0 i)) (f i) l xs ys at (records-length f w same 0 i ∙ sym (d .place)) (omega (arith, fits, d .place, d .size)) (d .bytes) q ∙ ap (λ (s : List ℕ). over s l) (sym (joined-next f i)) in
+      record { place = omega (arith, d .place, mul-suc w i, add-one i); size = rw bytes (length-over (joined f (numbers 0 (i + 1))) l (omega (arith, fits, d .size, records-length f w same 0 (i + 1), mul-suc w i))); bytes = bytes }
 
-pub lay-end : (f : ℕ → List ℕ) (w n i at : ℕ) (l xs : List ℕ) → i ≤ n → n ≤ i → Laid f w l i at xs → xs ≡ over (records f (numbers 0 n)) l
+pub lay-end : (f : ℕ → List ℕ) (w n i at : ℕ) (l xs : List ℕ) → i ≤ n → n ≤ i → Laid f w l i at xs → xs ≡ over (joined f (numbers 0 n)) l
 lay-end f w n i at l xs a b d =
     let same : i ≡ n = omega arith in
     rw (← same) (d .bytes)
@@ -99,17 +89,17 @@ module _ (pivots divisors : List ℕ) (c k at : ℕ) (before xs : List ℕ) (h :
   core-turn ys q = lay-turn (coreBytes pivots divisors) 8 (core-size pivots divisors) c k at before xs ys h room d q
 
 -- the sheet, part by part
-records-ext : (f g : ℕ → List ℕ) (a n : ℕ) → ((i : ℕ) → a ≤ i → i < a + n → f i ≡ g i) → records f (numbers a n) ≡ records g (numbers a n)
-unfolding records numbers
+records-ext : (f g : ℕ → List ℕ) (a n : ℕ) → ((i : ℕ) → a ≤ i → i < a + n → f i ≡ g i) → joined f (numbers a n) ≡ joined g (numbers a n)
+unfolding joined numbers
 records-ext f g a zero h = refl
 records-ext f g a (suc n) h = rw (h a (omega arith) (omega arith), records-ext f g (suc a) n (λ i x y. h i (omega arith) (omega arith)))
 
 module _ (l : List ℕ) (a : Assignment) (r : Rates) (n : ℕ) (q : n ≡ jobCount l) (rated : Rated l a r) where
   tasks : List ℕ
-  tasks = records (taskBytes l (a .core) (r .factors)) (numbers 0 n)
+  tasks = joined (taskBytes l (a .core) (r .factors)) (numbers 0 n)
 
   cores : List ℕ
-  cores = records (coreBytes (r .pivots) (r .divisors)) (numbers 0 (a .cores))
+  cores = joined (coreBytes (r .pivots) (r .divisors)) (numbers 0 (a .cores))
 
   tasks-size : length tasks ≡ 10 * n
   unfolding tasks
@@ -132,7 +122,7 @@ module _ (l : List ℕ) (a : Assignment) (r : Rates) (n : ℕ) (q : n ≡ jobCou
   unfolding header
   sheet-length = rw (← sheet-parts) (simp length-append (omega (arith, tasks-size, cores-size)))
 
-  pub sheet-written : (out order head ys zs : List ℕ) → 712 ≤ length out → Prioritized l order → Assigned l a → head ≡ over (header n (a .cores)) out → ys ≡ over (records (taskBytes l (a .core) (r .factors)) (numbers 0 n)) (take (length head - 8) (drop 8 head)) → zs ≡ over (records (coreBytes (r .pivots) (r .divisors)) (numbers 0 (a .cores))) (take (length (putMid 8 (length head - 8) head ys) - (8 + 10 * n)) (drop (8 + 10 * n) (putMid 8 (length head - 8) head ys))) → putMid (8 + 10 * n) (length (putMid 8 (length head - 8) head ys) - (8 + 10 * n)) (putMid 8 (length head - 8) head ys) zs ≡ over (sheetOf (jobPeriod l) (jobBudget l) (jobCount l) a) out
+  pub sheet-written : (out order head ys zs : List ℕ) → 712 ≤ length out → Prioritized l order → Assigned l a → head ≡ over (header n (a .cores)) out → ys ≡ over (joined (taskBytes l (a .core) (r .factors)) (numbers 0 n)) (take (length head - 8) (drop 8 head)) → zs ≡ over (joined (coreBytes (r .pivots) (r .divisors)) (numbers 0 (a .cores))) (take (length (putMid 8 (length head - 8) head ys) - (8 + 10 * n)) (drop (8 + 10 * n) (putMid 8 (length head - 8) head ys))) → putMid (8 + 10 * n) (length (putMid 8 (length head - 8) head ys) - (8 + 10 * n)) (putMid 8 (length head - 8) head ys) zs ≡ over (sheetOf (jobPeriod l) (jobBudget l) (jobCount l) a) out
   unfolding tasks cores header
   sheet-written out order head ys zs room few all h t c =
       over-next (header n (a .cores) ++ tasks) cores out (putMid 8 (length head - 8) head ys) zs (8 + 10 * n) (simp length-append (omega (arith, tasks-size))) (omega (arith, few .few))

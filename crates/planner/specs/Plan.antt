@@ -4,18 +4,19 @@ use mathlib.Core.Path.{_≡_}
 use mathlib.Core.Bool.{Bool, not, cond}
 use mathlib.Core.Option.{Option, none, some}
 use mathlib.Core.List.{List, [], _∷_, _++_}
-use lib.ListN.{length, take, drop}
+use lib.ListN.{length, take}
 use lib.Dec.{leb, ltb, eqb}
 use Rattle.sheet.specs.Refusals.{numberOf}
 use Rattle.sheet.specs.Table.{Refused, Row, _at_, scan, whole}
 use Rattle.fit.specs.declared.By.the-variants.{Ring}
+use Rattle.fit.specs.Lists.{over}
 use Rattle.fit.specs.Ring.{orderBy}
 use Rattle.jobs.specs.Jobs.{jobCount, jobPeriod, jobBudget, listRows}
 use Rattle.checker.specs.Verdict.{verdict, accepted}
 use Rattle.planner.specs.FirstFit.{rotate, unassigned, Fit, placed, unplaced, firstFit}
 use Rattle.planner.specs.Sheet.{sheetOf}
 use Rattle.planner.specs.declared.Planned.{Planned}
-use Rattle.planner.specs.declared.Planned.the-variants.{Written, Refused as Turned}
+use Rattle.planner.specs.declared.Planned.the-variants.{Written, Refused as Rejected}
 
 -- first fit over the ring of a job list, walked from a start
 unfoldable pub fitOf : List ℕ → ℕ → ℕ → Fit
@@ -61,11 +62,7 @@ planOutcome l limit start room =
     unless (scan (planRows l limit start room))
     (written (jobCount l) (coresFor (fitOf l limit start)) (length (sheetFor l (fitOf l limit start))))
 
--- "Bytes past the sheet's end keep what they held"
-unfoldable pub over : List ℕ → List ℕ → List ℕ
-over s out = s ++ drop (length s) out
-
--- a refusal writes no byte
+-- "Bytes past the sheet's end keep what they held"; a refusal writes no byte
 unfoldable pub laidOver : Option Refused → List ℕ → List ℕ → List ℕ
 laidOver none s out = over s out
 laidOver (some r) s out = out
@@ -76,9 +73,9 @@ planOutput l limit start out = laidOver (scan (planRows l limit start (length ou
 -- the code's answer as an outcome: a word is its number in document 01
 abbrev pub outcomeOf : Planned → Outcome
 outcomeOf (Written n c s) = written n c s
-outcomeOf (Turned w p) = refused (numberOf w) p
+outcomeOf (Rejected w p) = refused (numberOf w) p
 
 -- the checker accepts what was written, with the answer's counts
 abbrev pub Accepting : Planned → List ℕ → Type 0
 Accepting (Written n c s) out = verdict (take s out) ≡ accepted n c
-Accepting (Turned w p) out = Unit {0}
+Accepting (Rejected w p) out = Unit {0}

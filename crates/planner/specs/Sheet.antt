@@ -3,8 +3,8 @@ use Prim.Native.Nat.{ℕ, _/_, _%_}
 use mathlib.Core.Option.{Option, none, some}
 use mathlib.Core.List.{List, [], _∷_, _++_}
 use lib.Dec.{eqb}
-use Rattle.fit.specs.Lists.{numbers, at, placeOf}
-use Rattle.figures.specs.Constructions.{Acceleration}
+use Rattle.fit.specs.Lists.{numbers, at, placeOf, joined}
+use Rattle.figures.specs.Constructions.{Acceleration, noFigures}
 use Rattle.planner.specs.declared.Assignment.{Assignment}
 use Rattle.planner.specs.FirstFit.{coreSet, coreFigures}
 
@@ -25,14 +25,9 @@ taskRecord p e k m = two p ++ (two e ++ (k ∷ 0 ∷ four m))
 unfoldable pub coreRecord : ℕ → ℕ → List ℕ
 coreRecord q d = two q ++ (0 ∷ 0 ∷ four d)
 
--- one record for each of a list, one after the other
-unfoldable pub records : (ℕ → List ℕ) → List ℕ → List ℕ
-records f [] = []
-records f (i ∷ l) = f i ++ records f l
-
 -- the figures of core k; zeros where there are none
 unfoldable pub orZeros : Option Acceleration → Acceleration
-orZeros none = record { Q = 0; D = 0; factors = [] }
+orZeros none = noFigures
 orZeros (some a) = a
 
 unfoldable pub figuresFor : (ℕ → ℕ) → (ℕ → ℕ) → ℕ → Assignment → ℕ → Acceleration
@@ -46,5 +41,5 @@ factorFor p e n a i = at (figuresFor p e n a (at (a .core) i) .factors) (placeOf
 unfoldable pub sheetOf : (ℕ → ℕ) → (ℕ → ℕ) → ℕ → Assignment → List ℕ
 sheetOf p e n a =
     header n (a .cores)
-    ++ (records (λ i. taskRecord (p i) (e i) (at (a .core) i) (factorFor p e n a i)) (numbers 0 n)
-    ++ records (λ k. coreRecord (figuresFor p e n a k .Q) (figuresFor p e n a k .D)) (numbers 0 (a .cores)))
+    ++ (joined (λ i. taskRecord (p i) (e i) (at (a .core) i) (factorFor p e n a i)) (numbers 0 n)
+    ++ joined (λ k. coreRecord (figuresFor p e n a k .Q) (figuresFor p e n a k .D)) (numbers 0 (a .cores)))

@@ -4,7 +4,6 @@ use mathlib.Core.Path.{_≡_}
 use mathlib.Core.Bool.{Bool, cond}
 use mathlib.Core.List.{List, [], _∷_, _++_, map}
 use lib.ListN.{length, take, set, getD}
-use lib.Dec.{eqb}
 use Rattle.sheet.specs.declared.Found.{Found}
 use Rattle.sheet.specs.declared.Found.the-variants.{At, Nothing}
 use Rattle.fit.specs.Lists.{at}
@@ -33,10 +32,6 @@ pub record Pushed (list : List ℕ) (count i : ℕ) (belongs : Bool) (new : List
   pub more : (count ≤ r) × (r ≤ count + 1)
   pub front : take r new ≡ cond belongs (take count list ++ i ∷ []) (take count list)
   pub rest : (j : ℕ) → r ≤ j → getD new j 0 ≡ getD list j 0
-
--- task i is on core k
-unfoldable pub on : List ℕ → ℕ → ℕ → Bool
-on core k i = eqb (at core i) k
 
 -- the periods and budgets of listed tasks stand at the front of their arrays
 pub record Gathered (l tasks : List ℕ) (s : TaskSet) : Type 0 where

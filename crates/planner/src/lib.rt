@@ -4,15 +4,16 @@ ghost use mathlib.Core.Path.{_≡_};
 ghost use Prim.Native.Nat.{_+_, _*_, _<_, _≤_};
 ghost use lib.ListN.{length, set};
 ghost use Rattle.sheet.specs.Table.{scan, foundOf, findingOf};
-ghost use Rattle.fit.specs.Lists.{numbers, find, select, at};
+ghost use Rattle.fit.specs.Priority.{isOn};
+ghost use Rattle.fit.specs.Lists.{numbers, find, select, at, joined, over};
 ghost use Rattle.fit.specs.Ring.{orderBy};
 ghost use Rattle.fit.specs.Answers.{Ordered};
 ghost use Rattle.jobs.specs.Jobs.{jobCount, jobPeriod, jobBudget};
 ghost use Rattle.figures.specs.Answers.{outcome};
 ghost use Rattle.planner.specs.FirstFit.{rotate, unassigned as noneAssigned, coreFigures, takes, coreFor, assign, firstFit};
-ghost use Rattle.planner.specs.Sheet.{header, taskRecord, coreRecord, records, sheetOf};
-ghost use Rattle.planner.specs.Plan.{fitOf, badStart, callRows, planOutcome, planOutput, over, outcomeOf, Accepting};
-ghost use Rattle.planner.specs.Steps.{Prioritized, Assigned, Pushed, on, Gathered, fitted, spread as spreadOver, Rated, taskBytes, coreBytes};
+ghost use Rattle.planner.specs.Sheet.{header, taskRecord, coreRecord, sheetOf};
+ghost use Rattle.planner.specs.Plan.{fitOf, badStart, callRows, planOutcome, planOutput, outcomeOf, Accepting};
+ghost use Rattle.planner.specs.Steps.{Prioritized, Assigned, Pushed, Gathered, fitted, spread as spreadOver, Rated, taskBytes, coreBytes};
 use figures::Outcome;
 use fit::By;
 use fit::Order;
@@ -87,7 +88,7 @@ fn push(list: &mut [u8], count: usize, i: u8, belongs: bool) -> usize
 // The tasks of core k in priority order.
 fn tasks_on(order: &[u8], cores: [u8; 64], k: u8) -> Order
     requires { ⌜ length (now order) ≤ 64 ⌝ }
-    ensures { λ r. ⌜ Ordered (select (on cores k) (now (order .entry))) r ⌝ }
+    ensures { λ r. ⌜ Ordered (select (isOn (at cores) k) (now (order .entry))) r ⌝ }
 {
     let mut list = [0u8; 64];
     let mut count = 0;
@@ -371,7 +372,7 @@ fn put_core(part: &mut [u8], q: u16, d: u32)
 // The task records.
 fn put_tasks(part: &mut [u8], jobs: &[u8], n: u8, cores: [u8; 64], factors: [u32; 64])
     requires { ⌜ (n ≤ 64) × (10 * n ≤ length (now part)) ⌝ }
-    ensures { λ _. ⌜ now (part .exit) ≡ over (records (taskBytes (now (jobs .entry)) cores factors) (numbers 0 n)) (now (part .entry)) ⌝ }
+    ensures { λ _. ⌜ now (part .exit) ≡ over (joined (taskBytes (now (jobs .entry)) cores factors) (numbers 0 n)) (now (part .entry)) ⌝ }
 {
     let mut at = 0;
     let mut i = 0;
@@ -389,10 +390,10 @@ fn put_tasks(part: &mut [u8], jobs: &[u8], n: u8, cores: [u8; 64], factors: [u32
     }
 }
 
-// The core records, into the part after the last task.
+// The core joined, into the part after the last task.
 fn put_cores(part: &mut [u8], c: u8, pivots: [u16; 8], divisors: [u32; 8])
     requires { ⌜ (c ≤ 8) × (8 * c ≤ length (now part)) ⌝ }
-    ensures { λ _. ⌜ now (part .exit) ≡ over (records (coreBytes pivots divisors) (numbers 0 c)) (now (part .entry)) ⌝ }
+    ensures { λ _. ⌜ now (part .exit) ≡ over (joined (coreBytes pivots divisors) (numbers 0 c)) (now (part .entry)) ⌝ }
 {
     let mut at = 0;
     let mut k = 0;

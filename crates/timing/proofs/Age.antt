@@ -1,4 +1,5 @@
 -- A task's age counts the ticks since its last accepted release, up to its period.
+-- Assumes nothing.
 use Prim.Native.Nat.{ℕ, _+_, min}
 use mathlib.Core.Path.{_≡_, refl, sym, ap, _∙_, subst}
 use mathlib.Core.Bool.{Bool}

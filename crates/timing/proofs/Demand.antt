@@ -1,4 +1,5 @@
 -- The demand test: what the tasks of each level may ask for in w ticks, and a blocking term, fit in w ticks.
+-- Assumes nothing.
 use Prim.Native.Nat.{ℕ, suc, _+_, _*_, _-_, _/_, _≤_, _<_}
 use mathlib.Core.Path.{_≡_, sym, ap, _∙_}
 use mathlib.Core.List.{List}
@@ -12,18 +13,13 @@ use Rattle.timing.specs.Tasks.{withJob}
 use Rattle.timing.specs.Calls.{Call, next}
 use Rattle.timing.specs.Serving.{nth}
 use Rattle.timing.proofs.Rate.{sumOf, rate}
-use Rattle.timing.proofs.Lists.{nth-each, nth-le-sum, sum-le, sum-map}
+use Rattle.timing.proofs.Lists.{sum-le, sum-map}
 use Rattle.timing.proofs.Steps.{bare, bare-next, bare-nth, length-next, take-next}
 
 -- w is the bound by task number and B the blocking term by place; the level of a place is the list up to it
 pub record Demand (B w : ℕ → ℕ) (s : List Task) : Type 0 where
   pub room : (k : ℕ) → k < length s → B k + sumOf (rate (w (nth s k .number))) (take (suc k) s) ≤ w (nth s k .number)
   pub within : (k : ℕ) → k < length s → w (nth s k .number) ≤ nth s k .period
-
--- e ≤ w ≤ p
-pub demand-bounds : (B w : ℕ → ℕ) (s : List Task) → Demand B w s → Each (λ t. (t .budget ≤ w (t .number)) × (w (t .number) ≤ t .period)) s
-unfolding rate
-demand-bounds B w s h = nth-each _ s (λ k lt. (omega (arith, h .room k lt, nth-le-sum (rate (w (nth s k .number))) s k lt), h .within k lt))
 
 -- From the load of a sheet: where k t bounds the releases of t in w = Q * M / D ticks, and the budgets of so many, with B, fit in Q * M / D, the level has room.
 pub room-of-load : (B Q D M : ℕ) (k : Task → ℕ) (s : List Task) → 0 < D → Each (λ t. (Q * M / D - 1) / t .period + 1 ≤ k t) s → (B + sumOf (λ t. t .budget * k t) s) * D ≤ Q * M → B + sumOf (rate (Q * M / D)) s ≤ Q * M / D

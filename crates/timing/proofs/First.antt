@@ -1,4 +1,5 @@
 -- A tick goes to the pending task of the highest priority, and is idle only where nothing is pending.
+-- Assumes nothing.
 use Prim.Native.Nat.{ℕ, suc}
 use mathlib.Core.Path.{_≡_, refl}
 use mathlib.Core.Logic.{inl, inr}

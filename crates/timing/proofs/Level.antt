@@ -1,4 +1,5 @@
 -- One level, the first tasks of a list by priority: while it is busy, its work and the ticks since it became busy fit in its bound.
+-- Assumes nothing.
 use Prim.Native.Nat.{ℕ, suc, _+_, _-_, _≤_, _<_}
 use mathlib.Core.Path.{_≡_, refl}
 use mathlib.Core.Logic.{⊎-elim}

@@ -1,4 +1,5 @@
 -- The on-time theorem for the dispatcher's lists of tasks: every level stays good, so every job ends in time.
+-- Assumes nothing.
 use Prim.Native.Nat.{ℕ, suc, _+_, _≤_, _<_}
 use mathlib.Core.Path.{_≡_, refl, sym, ap, _∙_}
 use mathlib.Core.Logic.{_⊎_, inl, inr, ⊎-elim}

@@ -1,4 +1,5 @@
 -- The demand of one task, as plain arithmetic: what it may ask for in a window of w ticks, and what it may have asked for since a level became busy.
+-- Assumes nothing.
 use Prim.Native.Nat.{ℕ, zero, suc, _+_, _*_, _-_, _/_, _≤_, _<_}
 use mathlib.Core.Path.{_≡_, ap}
 use mathlib.Core.List.{List, [], _∷_}

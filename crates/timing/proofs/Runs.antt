@@ -1,4 +1,5 @@
 -- Lists of calls on any machine: the state after them, and the parts of their log.
+-- Assumes nothing.
 use Prim.Native.Nat.{_+_}
 use mathlib.Core.Path.{_≡_, refl, sym, ap, _∙_, subst}
 use mathlib.Core.Bool.{Bool, true, false, cond}

@@ -7,51 +7,39 @@ use Rattle.capi.proofs.hand_back.Lts as lts
 use Rattle.capi.proofs.passed.Reads as passed-reads
 use Rattle.sheet.proofs.number.Reads as number-reads
 
--- src/lib.rt:118:27
 enum-known-answer : tie.Need-enum-known-answer
 enum-known-answer c = search needs
 
--- src/lib.rt:119:22
 number-requires : tie.Need-number-requires
 number-requires c κs = search needs
 
--- src/lib.rt:123:29
 enum-told : tie.Need-enum-told
 enum-told c = search needs
 
--- src/lib.rt:123:29
 passed-requires : tie.Need-passed-requires
 passed-requires c κs = search needs
 
--- src/lib.rt:124:30
 enum-told-2 : tie.Need-enum-told-2
 enum-told-2 c = search needs
 
--- src/lib.rt:124:30
 passed-requires-2 : tie.Need-passed-requires-2
 passed-requires-2 c κs = search needs
 
--- src/lib.rt:125:25
 enum-told-3 : tie.Need-enum-told-3
 enum-told-3 c = search needs
 
--- src/lib.rt:125:25
 passed-requires-3 : tie.Need-passed-requires-3
 passed-requires-3 c κs = search needs
 
--- src/lib.rt:112:1
 returns : tie.Need-returns
 returns c = search moved-refused
 
--- src/lib.rt:112:1
 returns-2 : tie.Need-returns-2
 returns-2 c = search moved-accepted
 
--- src/lib.rt:112:1
 returns-3 : tie.Need-returns-3
 returns-3 c = search moved-served
 
--- src/lib.rt:112:1
 returns-4 : tie.Need-returns-4
 returns-4 c = search moved-idle
 

@@ -1,5 +1,5 @@
 use borrow.Author.Needs.{needs}
-use Rattle.capi.proofs.Answers.{moved-on}
+use Rattle.capi.proofs.Answers.{stepped-on}
 use Rattle.capi.proofs.homvaits_finish.Statement.{statement}
 use Rattle.capi.proofs.homvaits_finish.Tie as tie
 use Rattle.capi.proofs.homvaits_finish.Reads as reads
@@ -7,17 +7,14 @@ use Rattle.capi.proofs.homvaits_finish.Lts as lts
 use Rattle.capi.proofs.hand_back.Reads as hand-back-reads
 use Rattle.dispatcher.proofs.Core.finish.Reads as finish-reads
 
--- src/lib.rt:156:15
 finish-requires : tie.Need-finish-requires
 finish-requires c κs = search needs
 
--- src/lib.rt:156:5
 hand-back-requires : tie.Need-hand-back-requires
 hand-back-requires c κs = search needs
 
--- src/lib.rt:152:1
 returns : tie.Need-returns
-returns c = search moved-on
+returns c = search stepped-on
 
 pub homvaits-finish-spec : {M : Type 1} → statement M
 homvaits-finish-spec = tie.close (tie.spec finish-requires hand-back-requires returns)

@@ -6,31 +6,24 @@ use Rattle.capi.proofs.homvaits_list.Reads as reads
 use Rattle.capi.proofs.homvaits_list.Lts as lts
 use Rattle.listing.proofs.list_sheet.Reads as list-sheet-reads
 
--- src/lib.rt:87:9
 list-sheet-requires : tie.Need-list-sheet-requires
 list-sheet-requires c κs = search needs
 
--- src/lib.rt:89:25
 enum-known-answer : tie.Need-enum-known-answer
 enum-known-answer c = search needs
 
--- src/lib.rt:94:26
 enum-told : tie.Need-enum-told
 enum-told c = search needs
 
--- src/lib.rt:82:1
 same-length : tie.Need-same-length
 same-length c = search needs
 
--- src/lib.rt:82:1
 returns : tie.Need-returns
 returns c = search (listed-written, needs)
 
--- src/lib.rt:82:1
 same-length-2 : tie.Need-same-length-2
 same-length-2 c = search needs
 
--- src/lib.rt:82:1
 returns-2 : tie.Need-returns-2
 returns-2 c = search (listed-tight, needs)
 

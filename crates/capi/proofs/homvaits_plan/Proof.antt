@@ -7,35 +7,27 @@ use Rattle.capi.proofs.homvaits_plan.Lts as lts
 use Rattle.planner.proofs.plan.Reads as plan-reads
 use Rattle.sheet.proofs.number.Reads as number-reads
 
--- src/lib.rt:88:9
 plan-requires : tie.Need-plan-requires
 plan-requires c κs = search needs
 
--- src/lib.rt:91:13
 enum-known-answer : tie.Need-enum-known-answer
 enum-known-answer c = search needs
 
--- src/lib.rt:101:28
 enum-known-answer-2 : tie.Need-enum-known-answer-2
 enum-known-answer-2 c = search needs
 
--- src/lib.rt:102:22
 number-requires : tie.Need-number-requires
 number-requires c κs = search needs
 
--- src/lib.rt:83:1
 same-length : tie.Need-same-length
 same-length c = search needs
 
--- src/lib.rt:83:1
 returns : tie.Need-returns
 returns c = (search planned-written, (search needs, λ z. search plan-accepted))
 
--- src/lib.rt:83:1
 same-length-2 : tie.Need-same-length-2
 same-length-2 c = search needs
 
--- src/lib.rt:83:1
 returns-2 : tie.Need-returns-2
 returns-2 c = (search planned-refused, (search needs, λ z. search plan-refused))
 

@@ -9,81 +9,63 @@ use Rattle.checker.proofs.record_rules.Reads as record-rules-reads
 use Rattle.checker.proofs.spare_rules.Reads as spare-rules-reads
 use Rattle.sheet.proofs.byte.Reads as byte-reads
 
--- src/lib.rt:373:9
 framing-requires : tie.Need-framing-requires
 framing-requires c κs = search needs
 
--- src/lib.rt:375:9
 enum-told : tie.Need-enum-told
 enum-told c = search needs
 
--- src/lib.rt:375:9
 returns : tie.Need-returns
 returns c = search frame-broken
 
 enum-told-2 : tie.Need-enum-told-2
 enum-told-2 c = search needs
 
--- src/lib.rt:377:9
 byte-requires : tie.Need-byte-requires
 byte-requires c κs = search needs
 
--- src/lib.rt:378:9
 byte-requires-2 : tie.Need-byte-requires-2
 byte-requires-2 c κs = search needs
 
--- src/lib.rt:379:19
 sub-records : tie.Need-sub-records
 sub-records c = search (records-long, needs)
 
--- src/lib.rt:379:19
 part-records-start : tie.Need-part-records-start
 part-records-start c = search (records-long, needs)
 
--- src/lib.rt:379:19
 part-records-end : tie.Need-part-records-end
 part-records-end c = search needs
 
--- src/lib.rt:380:9
 spare-rules-requires : tie.Need-spare-rules-requires
 spare-rules-requires c κs = search needs
 
--- src/lib.rt:382:9
 enum-told-3 : tie.Need-enum-told-3
 enum-told-3 c = search needs
 
--- src/lib.rt:382:9
 returns-2 : tie.Need-returns-2
 returns-2 c = search spare-broken
 
 enum-told-4 : tie.Need-enum-told-4
 enum-told-4 c = search needs
 
--- src/lib.rt:384:20
 cast-at : tie.Need-cast-at
 cast-at c = search needs
 
--- src/lib.rt:384:14
 mul-at : tie.Need-mul-at
 mul-at c = search needs
 
--- src/lib.rt:385:27
 sub-record-rules : tie.Need-sub-record-rules
 sub-record-rules c = search (cores-long, needs)
 
--- src/lib.rt:385:27
 part-record-rules-start : tie.Need-part-record-rules-start
 part-record-rules-start c = search (cores-long, needs)
 
--- src/lib.rt:385:27
 part-record-rules-end : tie.Need-part-record-rules-end
 part-record-rules-end c = search needs
 
--- src/lib.rt:385:5
 record-rules-requires : tie.Need-record-rules-requires
 record-rules-requires c κs = search tasks-few
 
--- src/lib.rt:370:1
 returns-3 : tie.Need-returns-3
 returns-3 c = search records-found
 

@@ -15,31 +15,24 @@ Inv-loop tasks cores n c i₀ i = (i ≤ n) × Below (figuresOf n c tasks cores)
 abbrev μ-loop : tie.MeasureT-loop
 μ-loop tasks cores n c i₀ i = n - i
 
--- src/lib.rt:366:5
 loop-holds : tie.Need-loop-holds Inv-loop μ-loop
 loop-holds c = search (below-start, needs)
 
--- src/lib.rt:367:13
 is-sound-requires : tie.Need-is-sound-requires Inv-loop μ-loop
 is-sound-requires c κs = search needs
 
--- src/lib.rt:368:13
 returns : tie.Need-returns Inv-loop μ-loop
 returns c = λ e. absurd (false≢true e)
 
--- src/lib.rt:370:9
 add-i : tie.Need-add-i Inv-loop μ-loop
 add-i c = search needs
 
--- src/lib.rt:366:5
 loop-less : tie.Need-loop-less Inv-loop μ-loop
 loop-less c = search needs
 
--- src/lib.rt:366:5
 loop-again : tie.Need-loop-again Inv-loop μ-loop
 loop-again c = (search needs, search (below-turn, needs))
 
--- src/lib.rt:362:1
 returns-2 : tie.Need-returns-2 Inv-loop μ-loop
 returns-2 c = λ e. below-end _ _ _ (c .loop-test .left) (c .before .loop .inv .1)
 

@@ -5,19 +5,15 @@ use Rattle.checker.proofs.answer.Tie as tie
 use Rattle.checker.proofs.answer.Reads as reads
 use Rattle.checker.proofs.answer.Lts as lts
 
--- src/lib.rt:390:25
 enum-known-found : tie.Need-enum-known-found
 enum-known-found c = search needs
 
--- src/lib.rt:391:27
 enum-told : tie.Need-enum-told
 enum-told c = search needs
 
--- src/lib.rt:386:1
 returns : tie.Need-returns
 returns c = search answer-refused
 
--- src/lib.rt:386:1
 returns-2 : tie.Need-returns-2
 returns-2 c = search answer-accepted
 

@@ -8,27 +8,21 @@ use Rattle.sheet.proofs.budget.Reads as budget-reads
 use Rattle.sheet.proofs.out_of.Reads as out-of-reads
 use Rattle.sheet.proofs.period.Reads as period-reads
 
--- src/lib.rt:57:9
 period-requires : tie.Need-period-requires
 period-requires c κs = search needs
 
--- src/lib.rt:58:9
 budget-requires : tie.Need-budget-requires
 budget-requires c κs = search needs
 
--- src/lib.rt:59:19
 cast-out-of : tie.Need-cast-out-of
 cast-out-of c = search needs
 
--- src/lib.rt:59:29
 cast-out-of-2 : tie.Need-cast-out-of-2
 cast-out-of-2 c = search needs
 
--- src/lib.rt:59:5
 out-of-requires : tie.Need-out-of-requires
 out-of-requires c κs = search needs
 
--- src/lib.rt:54:1
 returns : tie.Need-returns
 unfolding badBudget
 returns c = cc

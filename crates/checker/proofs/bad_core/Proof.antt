@@ -6,11 +6,9 @@ use Rattle.checker.proofs.bad_core.Reads as reads
 use Rattle.checker.proofs.bad_core.Lts as lts
 use Rattle.sheet.proofs.core.Reads as core-reads
 
--- src/lib.rt:72:10
 core-requires : tie.Need-core-requires
 core-requires c κs = search needs
 
--- src/lib.rt:69:1
 returns : tie.Need-returns
 unfolding badCore
 returns c = cc

@@ -7,15 +7,12 @@ use Rattle.checker.proofs.bad_factor.Lts as lts
 use Rattle.sheet.proofs.factor.Reads as factor-reads
 use Rattle.sheet.proofs.out_of.Reads as out-of-reads
 
--- src/lib.rt:84:28
 factor-requires : tie.Need-factor-requires
 factor-requires c κs = search needs
 
--- src/lib.rt:84:5
 out-of-requires : tie.Need-out-of-requires
 out-of-requires c κs = search needs
 
--- src/lib.rt:81:1
 returns : tie.Need-returns
 unfolding badFactor
 returns c = cc

@@ -7,19 +7,15 @@ use Rattle.checker.proofs.bad_period.Lts as lts
 use Rattle.sheet.proofs.out_of.Reads as out-of-reads
 use Rattle.sheet.proofs.period.Reads as period-reads
 
--- src/lib.rt:51:27
 period-requires : tie.Need-period-requires
 period-requires c κs = search needs
 
--- src/lib.rt:51:27
 cast-out-of : tie.Need-cast-out-of
 cast-out-of c = search needs
 
--- src/lib.rt:51:5
 out-of-requires : tie.Need-out-of-requires
 out-of-requires c κs = search needs
 
--- src/lib.rt:48:1
 returns : tie.Need-returns
 unfolding badPeriod
 returns c = cc

@@ -8,27 +8,21 @@ use Rattle.sheet.proofs.divisor.Reads as divisor-reads
 use Rattle.sheet.proofs.out_of.Reads as out-of-reads
 use Rattle.sheet.proofs.pivot.Reads as pivot-reads
 
--- src/lib.rt:90:35
 pivot-requires : tie.Need-pivot-requires
 pivot-requires c κs = search needs
 
--- src/lib.rt:90:35
 cast-out-of : tie.Need-cast-out-of
 cast-out-of c = search needs
 
--- src/lib.rt:90:9
 out-of-requires : tie.Need-out-of-requires
 out-of-requires c κs = search needs
 
--- src/lib.rt:91:36
 divisor-requires : tie.Need-divisor-requires
 divisor-requires c κs = search needs
 
--- src/lib.rt:91:9
 out-of-requires-2 : tie.Need-out-of-requires-2
 out-of-requires-2 c κs = search needs
 
--- src/lib.rt:87:1
 returns : tie.Need-returns
 unfolding badPivot
 returns c = cc

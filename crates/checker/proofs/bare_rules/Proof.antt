@@ -8,23 +8,18 @@ use Rattle.checker.proofs.bare_rules.Reads as reads
 use Rattle.checker.proofs.bare_rules.Lts as lts
 use Rattle.checker.proofs.first.Reads as first-reads
 
--- src/lib.rt:380:9
 first-requires : tie.Need-first-requires
 first-requires c κs = search needs
 
--- src/lib.rt:381:22
 enum-known-bare : tie.Need-enum-known-bare
 enum-known-bare c = search needs
 
--- src/lib.rt:382:53
 cast-t11 : tie.Need-cast-t11
 cast-t11 c = search needs
 
--- src/lib.rt:382:47
 add-t12 : tie.Need-add-t12
 add-t12 c = search needs
 
--- src/lib.rt:382:9
 returns : tie.Need-returns
 unfolding coreRows
 returns c = search (scan-hit, found-at, core-at)
@@ -32,23 +27,18 @@ returns c = search (scan-hit, found-at, core-at)
 enum-told : tie.Need-enum-told
 enum-told c = search needs
 
--- src/lib.rt:384:9
 first-requires-2 : tie.Need-first-requires-2
 first-requires-2 c κs = search needs
 
--- src/lib.rt:385:22
 enum-known-pivot : tie.Need-enum-known-pivot
 enum-known-pivot c = search needs
 
--- src/lib.rt:386:55
 cast-t14 : tie.Need-cast-t14
 cast-t14 c = search needs
 
--- src/lib.rt:386:49
 add-t15 : tie.Need-add-t15
 add-t15 c = search needs
 
--- src/lib.rt:386:9
 returns-2 : tie.Need-returns-2
 unfolding coreRows
 returns-2 c = search (scan-skip, scan-hit, scan-none, found-at, found-none, core-at, core-none, factors-clear _ (c .before .before .before .before .before .before .before .before .before .pre), stretch-clear _ (c .before .before .before .before .before .before .before .before .before .pre)) depth 9
@@ -56,7 +46,6 @@ returns-2 c = search (scan-skip, scan-hit, scan-none, found-at, found-none, core
 enum-told-2 : tie.Need-enum-told-2
 enum-told-2 c = search needs
 
--- src/lib.rt:376:1
 returns-3 : tie.Need-returns-3
 unfolding coreRows
 returns-3 c = search (scan-skip, scan-hit, scan-none, found-at, found-none, core-at, core-none, factors-clear _ (c .before .before .before .before .before .before .before .before .pre), stretch-clear _ (c .before .before .before .before .before .before .before .before .pre)) depth 9

@@ -8,23 +8,18 @@ use Rattle.checker.proofs.all_rules.Reads as all-rules-reads
 use Rattle.checker.proofs.answer.Reads as answer-reads
 use Rattle.sheet.proofs.byte.Reads as byte-reads
 
--- src/lib.rt:400:9
 all-rules-requires : tie.Need-all-rules-requires
 all-rules-requires c κs = search needs
 
--- src/lib.rt:401:9
 byte-requires : tie.Need-byte-requires
 byte-requires c κs = search needs
 
--- src/lib.rt:402:9
 byte-requires-2 : tie.Need-byte-requires-2
 byte-requires-2 c κs = search needs
 
--- src/lib.rt:399:5
 answer-requires : tie.Need-answer-requires
 answer-requires c κs = search needs
 
--- src/lib.rt:396:1
 returns : tie.Need-returns
 returns c = search answered
 

@@ -7,23 +7,18 @@ use Rattle.checker.proofs.core_rules.Reads as reads
 use Rattle.checker.proofs.core_rules.Lts as lts
 use Rattle.checker.proofs.first.Reads as first-reads
 
--- src/lib.rt:280:9
 first-requires : tie.Need-first-requires
 first-requires c κs = search needs
 
--- src/lib.rt:281:22
 enum-known-bare : tie.Need-enum-known-bare
 enum-known-bare c = search needs
 
--- src/lib.rt:282:53
 cast-t15 : tie.Need-cast-t15
 cast-t15 c = search needs
 
--- src/lib.rt:282:47
 add-t16 : tie.Need-add-t16
 add-t16 c = search needs
 
--- src/lib.rt:282:9
 returns : tie.Need-returns
 unfolding coreRows
 returns c = search (scan-skip, scan-hit, scan-none, found-at, found-none, core-at, core-none) depth 9
@@ -31,19 +26,15 @@ returns c = search (scan-skip, scan-hit, scan-none, found-at, found-none, core-a
 enum-told : tie.Need-enum-told
 enum-told c = search needs
 
--- src/lib.rt:284:9
 first-requires-2 : tie.Need-first-requires-2
 first-requires-2 c κs = search needs
 
--- src/lib.rt:285:22
 enum-known-factor : tie.Need-enum-known-factor
 enum-known-factor c = search needs
 
--- src/lib.rt:286:49
 cast-t18 : tie.Need-cast-t18
 cast-t18 c = search needs
 
--- src/lib.rt:286:9
 returns-2 : tie.Need-returns-2
 unfolding coreRows
 returns-2 c = search (scan-skip, scan-hit, scan-none, found-at, found-none, core-at, core-none) depth 9
@@ -51,23 +42,18 @@ returns-2 c = search (scan-skip, scan-hit, scan-none, found-at, found-none, core
 enum-told-2 : tie.Need-enum-told-2
 enum-told-2 c = search needs
 
--- src/lib.rt:288:9
 first-requires-3 : tie.Need-first-requires-3
 first-requires-3 c κs = search needs
 
--- src/lib.rt:289:22
 enum-known-pivot : tie.Need-enum-known-pivot
 enum-known-pivot c = search needs
 
--- src/lib.rt:290:55
 cast-t20 : tie.Need-cast-t20
 cast-t20 c = search needs
 
--- src/lib.rt:290:49
 add-t21 : tie.Need-add-t21
 add-t21 c = search needs
 
--- src/lib.rt:290:9
 returns-3 : tie.Need-returns-3
 unfolding coreRows
 returns-3 c = search (scan-skip, scan-hit, scan-none, found-at, found-none, core-at, core-none) depth 9
@@ -75,19 +61,15 @@ returns-3 c = search (scan-skip, scan-hit, scan-none, found-at, found-none, core
 enum-told-3 : tie.Need-enum-told-3
 enum-told-3 c = search needs
 
--- src/lib.rt:292:9
 first-requires-4 : tie.Need-first-requires-4
 first-requires-4 c κs = search needs
 
--- src/lib.rt:293:22
 enum-known-stretch : tie.Need-enum-known-stretch
 enum-known-stretch c = search needs
 
--- src/lib.rt:294:50
 cast-t23 : tie.Need-cast-t23
 cast-t23 c = search needs
 
--- src/lib.rt:294:9
 returns-4 : tie.Need-returns-4
 unfolding coreRows
 returns-4 c = search (scan-skip, scan-hit, scan-none, found-at, found-none, core-at, core-none) depth 9
@@ -95,7 +77,6 @@ returns-4 c = search (scan-skip, scan-hit, scan-none, found-at, found-none, core
 enum-told-4 : tie.Need-enum-told-4
 enum-told-4 c = search needs
 
--- src/lib.rt:277:1
 returns-5 : tie.Need-returns-5
 unfolding coreRows
 returns-5 c = search (scan-skip, scan-hit, scan-none, found-at, found-none, core-at, core-none) depth 9

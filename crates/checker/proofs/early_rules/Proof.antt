@@ -9,38 +9,30 @@ use Rattle.checker.proofs.bare_rules.Reads as bare-rules-reads
 use Rattle.checker.proofs.core_rules.Reads as core-rules-reads
 use Rattle.checker.proofs.task_rules.Reads as task-rules-reads
 
--- src/lib.rt:395:8
 all-sound-requires : tie.Need-all-sound-requires
 all-sound-requires c κs = search needs
 
--- src/lib.rt:396:9
 bare-rules-requires : tie.Need-bare-rules-requires
 bare-rules-requires c κs = c .before .all-sound .ensures (c .if1 .taken)
 
--- src/lib.rt:396:9
 returns : tie.Need-returns
 returns c = early-fast _ (c .before .before .all-sound .ensures (c .before .if1 .taken)) (c .bare-rules .result) (c .bare-rules .ensures)
 
--- src/lib.rt:398:9
 task-rules-requires : tie.Need-task-rules-requires
 task-rules-requires c κs = search needs
 
--- src/lib.rt:400:9
 enum-told : tie.Need-enum-told
 enum-told c = search needs
 
--- src/lib.rt:400:9
 returns-2 : tie.Need-returns-2
 returns-2 c = search early-broken
 
 enum-told-2 : tie.Need-enum-told-2
 enum-told-2 c = search needs
 
--- src/lib.rt:402:5
 core-rules-requires : tie.Need-core-rules-requires
 core-rules-requires c κs = search needs
 
--- src/lib.rt:392:1
 returns-3 : tie.Need-returns-3
 returns-3 c = search early-slow
 

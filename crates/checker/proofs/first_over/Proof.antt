@@ -5,17 +5,14 @@ use Rattle.checker.proofs.first_over.Tie as tie
 use Rattle.checker.proofs.first_over.Reads as reads
 use Rattle.checker.proofs.first_over.Lts as lts
 
--- src/lib.rt:322:13
 returns : tie.Need-returns
 unfolding firstOver
 returns c = rw (c .before .if1 .taken, c .if2 .taken)
 
--- src/lib.rt:317:1
 returns-2 : tie.Need-returns-2
 unfolding firstOver
 returns-2 c = rw (c .before .if1 .taken, ne-eqb _ _ (c .if2 .left))
 
--- src/lib.rt:317:1
 returns-3 : tie.Need-returns-3
 unfolding firstOver
 returns-3 c = rw (c .if1 .left)

@@ -19,69 +19,53 @@ Inv-loop tasks cores n c periods found₀ k₀ found k = (k ≤ c) × (found < 2
 abbrev μ-loop : tie.MeasureT-loop
 μ-loop tasks cores n c periods found₀ k₀ found k = c - k
 
--- src/lib.rt:331:19
 periods-of-requires : tie.Need-periods-of-requires Inv-loop μ-loop
 periods-of-requires c κs = search needs
 
--- src/lib.rt:334:5
 loop-holds : tie.Need-loop-holds Inv-loop μ-loop
 loop-holds c = (search needs, search needs, search needs, search (fit-start, needs))
 
--- src/lib.rt:335:28
 slice-aggregate-judge : tie.Need-slice-aggregate-judge Inv-loop μ-loop
 slice-aggregate-judge c = search needs
 
--- src/lib.rt:335:13
 judge-requires : tie.Need-judge-requires Inv-loop μ-loop
 judge-requires c κs = (c .before .before .before .before .before .before .pre _ (c .before .loop-test .taken), c .before .before .before .periods-of .ensures)
 
--- src/lib.rt:337:31
 enum-known-judged : tie.Need-enum-known-judged Inv-loop μ-loop
 enum-known-judged c = search needs
 
--- src/lib.rt:338:56
 cast-t16 : tie.Need-cast-t16 Inv-loop μ-loop
 cast-t16 c = search needs
 
--- src/lib.rt:338:17
 returns : tie.Need-returns Inv-loop μ-loop
 unfolding fitRows
 returns c = search (scan-hit, fit-broken, needs)
 
--- src/lib.rt:340:31
 enum-known-judged-2 : tie.Need-enum-known-judged-2 Inv-loop μ-loop
 enum-known-judged-2 c = search needs
 
--- src/lib.rt:341:17
 first-over-requires : tie.Need-first-over-requires Inv-loop μ-loop
 first-over-requires c κs = search needs
 
--- src/lib.rt:342:17
 add-k : tie.Need-add-k Inv-loop μ-loop
 add-k c = search needs
 
--- src/lib.rt:334:5
 loop-less : tie.Need-loop-less Inv-loop μ-loop
 loop-less c = search needs
 
--- src/lib.rt:334:5
 loop-again : tie.Need-loop-again Inv-loop μ-loop
 loop-again c = (search needs, search needs, search needs, search (fit-turn, needs))
 
--- src/lib.rt:347:9
 returns-2 : tie.Need-returns-2 Inv-loop μ-loop
 unfolding fitRows
 returns-2 c = search (scan-skip, scan-none, fit-end, fit-clear, core-none)
 
--- src/lib.rt:349:46
 cast-t19 : tie.Need-cast-t19 Inv-loop μ-loop
 cast-t19 c = search needs
 
--- src/lib.rt:349:40
 add-t20 : tie.Need-add-t20 Inv-loop μ-loop
 add-t20 c = search needs
 
--- src/lib.rt:327:1
 returns-3 : tie.Need-returns-3 Inv-loop μ-loop
 unfolding fitRows
 returns-3 c = search (scan-skip, scan-hit, fit-end, fit-over, core-at)

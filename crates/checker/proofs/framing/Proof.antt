@@ -11,52 +11,41 @@ use Rattle.checker.proofs.is_over_count.Reads as is-over-count-reads
 use Rattle.checker.proofs.is_stub.Reads as is-stub-reads
 use Rattle.checker.proofs.is_unmarked.Reads as is-unmarked-reads
 
--- src/lib.rt:191:8
 is-stub-requires : tie.Need-is-stub-requires
 is-stub-requires c κs = search needs
 
--- src/lib.rt:192:9
 returns : tie.Need-returns
 unfolding frameRows
 returns c = search (scan-skip, scan-hit, scan-none, whole-true, whole-false) depth 8
 
--- src/lib.rt:194:8
 is-unmarked-requires : tie.Need-is-unmarked-requires
 is-unmarked-requires c κs = search needs
 
--- src/lib.rt:195:9
 returns-2 : tie.Need-returns-2
 unfolding frameRows
 returns-2 c = search (scan-skip, scan-hit, scan-none, whole-true, whole-false) depth 8
 
--- src/lib.rt:197:8
 is-other-version-requires : tie.Need-is-other-version-requires
 is-other-version-requires c κs = search needs
 
--- src/lib.rt:198:9
 returns-3 : tie.Need-returns-3
 unfolding frameRows
 returns-3 c = search (scan-skip, scan-hit, scan-none, whole-true, whole-false) depth 8
 
--- src/lib.rt:200:8
 is-over-count-requires : tie.Need-is-over-count-requires
 is-over-count-requires c κs = search needs
 
--- src/lib.rt:201:9
 returns-4 : tie.Need-returns-4
 unfolding frameRows
 returns-4 c = search (scan-skip, scan-hit, scan-none, whole-true, whole-false) depth 8
 
--- src/lib.rt:203:8
 is-other-length-requires : tie.Need-is-other-length-requires
 is-other-length-requires c κs = search needs
 
--- src/lib.rt:204:9
 returns-5 : tie.Need-returns-5
 unfolding frameRows
 returns-5 c = search (scan-skip, scan-hit, scan-none, whole-true, whole-false) depth 8
 
--- src/lib.rt:188:1
 returns-6 : tie.Need-returns-6
 unfolding frameRows
 returns-6 c = search (scan-skip, scan-hit, scan-none, whole-true, whole-false) depth 8

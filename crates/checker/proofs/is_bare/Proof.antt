@@ -1,7 +1,7 @@
 use borrow.Author.Needs.{needs}
 use Prim.Native.Nat.{_≤_, _-_}
 use Rattle.sheet.specs.Records.{coreAt}
-use Rattle.checker.specs.Tests.{isOn}
+use Rattle.fit.specs.Priority.{isOn}
 use Rattle.fit.proofs.Finds.{Left, find-start}
 use Rattle.checker.proofs.Bare.{bare-hit, bare-turn, bare-end}
 use Rattle.checker.proofs.is_bare.Statement.{statement}
@@ -16,31 +16,24 @@ Inv-loop tasks n k i₀ i = (i ≤ n) × Left (isOn (coreAt tasks) k) n i
 abbrev μ-loop : tie.MeasureT-loop
 μ-loop tasks n k i₀ i = n - i
 
--- src/lib.rt:79:5
 loop-holds : tie.Need-loop-holds Inv-loop μ-loop
 loop-holds c = search (find-start, needs)
 
--- src/lib.rt:80:12
 core-requires : tie.Need-core-requires Inv-loop μ-loop
 core-requires c κs = search needs
 
--- src/lib.rt:81:13
 returns : tie.Need-returns Inv-loop μ-loop
 returns c = search (bare-hit, needs)
 
--- src/lib.rt:83:9
 add-i : tie.Need-add-i Inv-loop μ-loop
 add-i c = search needs
 
--- src/lib.rt:79:5
 loop-less : tie.Need-loop-less Inv-loop μ-loop
 loop-less c = search needs
 
--- src/lib.rt:79:5
 loop-again : tie.Need-loop-again Inv-loop μ-loop
 loop-again c = (search needs, search (bare-turn, needs))
 
--- src/lib.rt:75:1
 returns-2 : tie.Need-returns-2 Inv-loop μ-loop
 returns-2 c = search (bare-end, needs)
 

@@ -11,87 +11,66 @@ use Rattle.checker.proofs.bad_pivot.Reads as bad-pivot-reads
 use Rattle.checker.proofs.is_bare.Reads as is-bare-reads
 use Rattle.checker.proofs.is_stretched.Reads as is-stretched-reads
 
--- src/lib.rt:123:25
 enum-told : tie.Need-enum-told
 enum-told c = search needs
 
--- src/lib.rt:123:25
 bad-period-requires : tie.Need-bad-period-requires
 bad-period-requires c κs = search needs
 
--- src/lib.rt:124:25
 enum-told-2 : tie.Need-enum-told-2
 enum-told-2 c = search needs
 
--- src/lib.rt:124:25
 bad-budget-requires : tie.Need-bad-budget-requires
 bad-budget-requires c κs = search needs
 
--- src/lib.rt:125:23
 enum-told-3 : tie.Need-enum-told-3
 enum-told-3 c = search needs
 
--- src/lib.rt:125:23
 bad-core-requires : tie.Need-bad-core-requires
 bad-core-requires c κs = search needs
 
--- src/lib.rt:126:23
 enum-told-4 : tie.Need-enum-told-4
 enum-told-4 c = search needs
 
--- src/lib.rt:126:23
 is-bare-requires : tie.Need-is-bare-requires
 is-bare-requires c κs = search needs
 
--- src/lib.rt:127:25
 enum-told-5 : tie.Need-enum-told-5
 enum-told-5 c = search needs
 
--- src/lib.rt:127:25
 bad-factor-requires : tie.Need-bad-factor-requires
 bad-factor-requires c κs = search needs
 
--- src/lib.rt:128:24
 enum-told-6 : tie.Need-enum-told-6
 enum-told-6 c = search needs
 
--- src/lib.rt:128:24
 bad-pivot-requires : tie.Need-bad-pivot-requires
 bad-pivot-requires c κs = search needs
 
--- src/lib.rt:129:26
 enum-told-7 : tie.Need-enum-told-7
 enum-told-7 c = search needs
 
--- src/lib.rt:129:26
 is-stretched-requires : tie.Need-is-stretched-requires
 is-stretched-requires c κs = search needs
 
--- src/lib.rt:119:1
 returns : tie.Need-returns
 returns c = cc
 
--- src/lib.rt:119:1
 returns-2 : tie.Need-returns-2
 returns-2 c = cc
 
--- src/lib.rt:119:1
 returns-3 : tie.Need-returns-3
 returns-3 c = cc
 
--- src/lib.rt:119:1
 returns-4 : tie.Need-returns-4
 returns-4 c = cc
 
--- src/lib.rt:119:1
 returns-5 : tie.Need-returns-5
 returns-5 c = cc
 
--- src/lib.rt:119:1
 returns-6 : tie.Need-returns-6
 returns-6 c = cc
 
--- src/lib.rt:119:1
 returns-7 : tie.Need-returns-7
 returns-7 c = cc
 

@@ -5,39 +5,30 @@ use Rattle.checker.proofs.is_other_length.Reads as reads
 use Rattle.checker.proofs.is_other_length.Lts as lts
 use Rattle.sheet.proofs.byte.Reads as byte-reads
 
--- src/lib.rt:183:9
 byte-requires : tie.Need-byte-requires
 byte-requires c κs = search needs
 
--- src/lib.rt:184:9
 byte-requires-2 : tie.Need-byte-requires-2
 byte-requires-2 c κs = search needs
 
--- src/lib.rt:185:30
 cast-result : tie.Need-cast-result
 cast-result c = search needs
 
--- src/lib.rt:185:24
 mul-result : tie.Need-mul-result
 mul-result c = search needs
 
--- src/lib.rt:185:20
 add-result : tie.Need-add-result
 add-result c = search needs
 
--- src/lib.rt:185:49
 cast-result-2 : tie.Need-cast-result-2
 cast-result-2 c = search needs
 
--- src/lib.rt:185:44
 mul-result-2 : tie.Need-mul-result-2
 mul-result-2 c = search needs
 
--- src/lib.rt:185:20
 add-result-2 : tie.Need-add-result-2
 add-result-2 c = search needs
 
--- src/lib.rt:180:1
 returns : tie.Need-returns
 returns c = cc
 

@@ -5,11 +5,9 @@ use Rattle.checker.proofs.is_other_version.Reads as reads
 use Rattle.checker.proofs.is_other_version.Lts as lts
 use Rattle.sheet.proofs.read_word.Reads as read-word-reads
 
--- src/lib.rt:169:5
 read-word-requires : tie.Need-read-word-requires
 read-word-requires c κs = search needs
 
--- src/lib.rt:166:1
 returns : tie.Need-returns
 returns c = cc
 

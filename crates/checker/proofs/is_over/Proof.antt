@@ -9,23 +9,18 @@ use Rattle.fit.proofs.load_of.Reads as load-of-reads
 use Rattle.sheet.proofs.divisor.Reads as divisor-reads
 use Rattle.sheet.proofs.pivot.Reads as pivot-reads
 
--- src/lib.rt:303:42
 divisor-requires : tie.Need-divisor-requires
 divisor-requires c κs = search needs
 
--- src/lib.rt:303:9
 load-of-requires : tie.Need-load-of-requires
 load-of-requires c κs = search needs
 
--- src/lib.rt:304:13
 pivot-requires : tie.Need-pivot-requires
 pivot-requires c κs = search needs
 
--- src/lib.rt:304:5
 product-requires : tie.Need-product-requires
 product-requires c κs = search needs
 
--- src/lib.rt:300:1
 returns : tie.Need-returns
 unfolding overInRange
 returns c = cc

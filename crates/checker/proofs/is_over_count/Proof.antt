@@ -5,15 +5,12 @@ use Rattle.checker.proofs.is_over_count.Reads as reads
 use Rattle.checker.proofs.is_over_count.Lts as lts
 use Rattle.sheet.proofs.byte.Reads as byte-reads
 
--- src/lib.rt:175:9
 byte-requires : tie.Need-byte-requires
 byte-requires c κs = search needs
 
--- src/lib.rt:176:9
 byte-requires-2 : tie.Need-byte-requires-2
 byte-requires-2 c κs = search needs
 
--- src/lib.rt:172:1
 returns : tie.Need-returns
 returns c = cc
 

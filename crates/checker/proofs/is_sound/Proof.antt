@@ -10,27 +10,21 @@ use Rattle.checker.proofs.bad_factor.Reads as bad-factor-reads
 use Rattle.checker.proofs.bad_period.Reads as bad-period-reads
 use Rattle.checker.proofs.is_stretched.Reads as is-stretched-reads
 
--- src/lib.rt:356:18
 bad-period-requires : tie.Need-bad-period-requires
 bad-period-requires c κs = search needs
 
--- src/lib.rt:356:41
 bad-budget-requires : tie.Need-bad-budget-requires
 bad-budget-requires c κs = search needs
 
--- src/lib.rt:357:19
 bad-core-requires : tie.Need-bad-core-requires
 bad-core-requires c κs = search needs
 
--- src/lib.rt:357:43
 bad-factor-requires : tie.Need-bad-factor-requires
 bad-factor-requires c κs = search needs
 
--- src/lib.rt:358:28
 is-stretched-requires : tie.Need-is-stretched-requires
 is-stretched-requires c κs = search needs
 
--- src/lib.rt:353:1
 returns : tie.Need-returns
 unfolding soundAt
 returns c = cc

@@ -12,35 +12,27 @@ use Rattle.sheet.proofs.factor.Reads as factor-reads
 use Rattle.sheet.proofs.period.Reads as period-reads
 use Rattle.sheet.proofs.pivot.Reads as pivot-reads
 
--- src/lib.rt:113:9
 core-requires : tie.Need-core-requires
 core-requires c κs = search needs
 
--- src/lib.rt:114:25
 pivot-requires : tie.Need-pivot-requires
 pivot-requires c κs = search needs
 
--- src/lib.rt:114:49
 factor-requires : tie.Need-factor-requires
 factor-requires c κs = search needs
 
--- src/lib.rt:114:9
 product-requires : tie.Need-product-requires
 product-requires c κs = search needs
 
--- src/lib.rt:115:13
 period-requires : tie.Need-period-requires
 period-requires c κs = search needs
 
--- src/lib.rt:115:38
 divisor-requires : tie.Need-divisor-requires
 divisor-requires c κs = search needs
 
--- src/lib.rt:115:5
 product-requires-2 : tie.Need-product-requires-2
 product-requires-2 c κs = search needs
 
--- src/lib.rt:110:1
 returns : tie.Need-returns
 unfolding stretchedAt stretched
 returns c = cc

@@ -6,19 +6,15 @@ use Rattle.checker.proofs.is_unmarked.Reads as reads
 use Rattle.checker.proofs.is_unmarked.Lts as lts
 use Rattle.sheet.proofs.byte.Reads as byte-reads
 
--- src/lib.rt:160:9
 byte-requires : tie.Need-byte-requires
 byte-requires c κs = search needs
 
--- src/lib.rt:161:9
 byte-requires-2 : tie.Need-byte-requires-2
 byte-requires-2 c κs = search needs
 
--- src/lib.rt:162:9
 byte-requires-3 : tie.Need-byte-requires-3
 byte-requires-3 c κs = search needs
 
--- src/lib.rt:157:1
 returns : tie.Need-returns
 unfolding isMarked
 returns c = cc

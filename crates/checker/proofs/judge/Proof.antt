@@ -9,47 +9,36 @@ use Rattle.checker.proofs.is_over.Reads as is-over-reads
 use Rattle.fit.proofs.chain_of.Reads as chain-of-reads
 use Rattle.fit.proofs.on_core.Reads as on-core-reads
 
--- src/lib.rt:302:9
 on-core-requires : tie.Need-on-core-requires
 on-core-requires c κs = search needs
 
--- src/lib.rt:305:38
 array-share-prefix-list : tie.Need-array-share-prefix-list
 array-share-prefix-list c = search needs
 
--- src/lib.rt:305:38
 slice-aggregate-chain-of : tie.Need-slice-aggregate-chain-of
 slice-aggregate-chain-of c = search ordered-length
 
--- src/lib.rt:305:9
 chain-of-requires : tie.Need-chain-of-requires
 chain-of-requires c κs = search needs
 
--- src/lib.rt:307:23
 enum-known-chain : tie.Need-enum-known-chain
 enum-known-chain c = search needs
 
--- src/lib.rt:308:22
 enum-known-chain-2 : tie.Need-enum-known-chain-2
 enum-known-chain-2 c = search needs
 
--- src/lib.rt:309:41
 array-share-prefix-list-2 : tie.Need-array-share-prefix-list-2
 array-share-prefix-list-2 c = search needs
 
--- src/lib.rt:309:41
 slice-aggregate-is-over : tie.Need-slice-aggregate-is-over
 slice-aggregate-is-over c = search ordered-length
 
--- src/lib.rt:309:19
 is-over-requires : tie.Need-is-over-requires
 is-over-requires c κs = search needs
 
--- src/lib.rt:298:1
 returns : tie.Need-returns
 returns c = search judge-broken
 
--- src/lib.rt:298:1
 returns-2 : tie.Need-returns-2
 returns-2 c = search judge-whole
 

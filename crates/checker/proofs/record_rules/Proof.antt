@@ -8,26 +8,21 @@ use Rattle.checker.proofs.record_rules.Lts as lts
 use Rattle.checker.proofs.early_rules.Reads as early-rules-reads
 use Rattle.checker.proofs.fit_rules.Reads as fit-rules-reads
 
--- src/lib.rt:410:9
 early-rules-requires : tie.Need-early-rules-requires
 early-rules-requires c κs = search needs
 
--- src/lib.rt:412:9
 enum-told : tie.Need-enum-told
 enum-told c = search needs
 
--- src/lib.rt:412:9
 returns : tie.Need-returns
 returns c = search records-broken
 
 enum-told-2 : tie.Need-enum-told-2
 enum-told-2 c = search needs
 
--- src/lib.rt:414:5
 fit-rules-requires : tie.Need-fit-rules-requires
 fit-rules-requires c κs = clear-range _ _ (c .before .before .before .before .before .pre) (c .before .before .early-rules .ensures) (c .enum-told2 .given .1)
 
--- src/lib.rt:406:1
 returns-2 : tie.Need-returns-2
 returns-2 c = search records-fit
 

@@ -10,24 +10,19 @@ use Rattle.checker.proofs.core_spares.Reads as core-spares-reads
 use Rattle.checker.proofs.task_spares.Reads as task-spares-reads
 use Rattle.sheet.proofs.byte.Reads as byte-reads
 
--- src/lib.rt:247:8
 byte-requires : tie.Need-byte-requires
 byte-requires c κs = search needs
 
--- src/lib.rt:248:9
 returns : tie.Need-returns
 unfolding spareRows
 returns c = search (scan-hit, header-hit)
 
--- src/lib.rt:250:9
 task-spares-requires : tie.Need-task-spares-requires
 task-spares-requires c κs = search needs
 
--- src/lib.rt:252:9
 enum-told : tie.Need-enum-told
 enum-told c = search needs
 
--- src/lib.rt:252:9
 returns-2 : tie.Need-returns-2
 unfolding spareRows
 returns-2 c = search (scan-skip, header-clear, row-hit)
@@ -35,11 +30,9 @@ returns-2 c = search (scan-skip, header-clear, row-hit)
 enum-told-2 : tie.Need-enum-told-2
 enum-told-2 c = search needs
 
--- src/lib.rt:254:5
 core-spares-requires : tie.Need-core-spares-requires
 core-spares-requires c κs = search needs
 
--- src/lib.rt:244:1
 returns-3 : tie.Need-returns-3
 unfolding spareRows
 returns-3 c = search (scan-skip, header-clear, row-skip)

@@ -7,19 +7,15 @@ use Rattle.checker.proofs.task_rules.Reads as reads
 use Rattle.checker.proofs.task_rules.Lts as lts
 use Rattle.checker.proofs.first.Reads as first-reads
 
--- src/lib.rt:261:9
 first-requires : tie.Need-first-requires
 first-requires c κs = search needs
 
--- src/lib.rt:262:22
 enum-known-period : tie.Need-enum-known-period
 enum-known-period c = search needs
 
--- src/lib.rt:263:49
 cast-t13 : tie.Need-cast-t13
 cast-t13 c = search needs
 
--- src/lib.rt:263:9
 returns : tie.Need-returns
 unfolding taskRows
 returns c = search (scan-skip, scan-hit, scan-none, found-at, found-none) depth 8
@@ -27,19 +23,15 @@ returns c = search (scan-skip, scan-hit, scan-none, found-at, found-none) depth 
 enum-told : tie.Need-enum-told
 enum-told c = search needs
 
--- src/lib.rt:265:9
 first-requires-2 : tie.Need-first-requires-2
 first-requires-2 c κs = search needs
 
--- src/lib.rt:266:22
 enum-known-budget : tie.Need-enum-known-budget
 enum-known-budget c = search needs
 
--- src/lib.rt:267:49
 cast-t15 : tie.Need-cast-t15
 cast-t15 c = search needs
 
--- src/lib.rt:267:9
 returns-2 : tie.Need-returns-2
 unfolding taskRows
 returns-2 c = search (scan-skip, scan-hit, scan-none, found-at, found-none) depth 8
@@ -47,19 +39,15 @@ returns-2 c = search (scan-skip, scan-hit, scan-none, found-at, found-none) dept
 enum-told-2 : tie.Need-enum-told-2
 enum-told-2 c = search needs
 
--- src/lib.rt:269:9
 first-requires-3 : tie.Need-first-requires-3
 first-requires-3 c κs = search needs
 
--- src/lib.rt:270:22
 enum-known-core : tie.Need-enum-known-core
 enum-known-core c = search needs
 
--- src/lib.rt:271:47
 cast-t17 : tie.Need-cast-t17
 cast-t17 c = search needs
 
--- src/lib.rt:271:9
 returns-3 : tie.Need-returns-3
 unfolding taskRows
 returns-3 c = search (scan-skip, scan-hit, scan-none, found-at, found-none) depth 8
@@ -67,7 +55,6 @@ returns-3 c = search (scan-skip, scan-hit, scan-none, found-at, found-none) dept
 enum-told-3 : tie.Need-enum-told-3
 enum-told-3 c = search needs
 
--- src/lib.rt:258:1
 returns-4 : tie.Need-returns-4
 unfolding taskRows
 returns-4 c = search (scan-skip, scan-hit, scan-none, found-at, found-none) depth 8

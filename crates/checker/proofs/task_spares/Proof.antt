@@ -15,51 +15,39 @@ Inv-loop records n at₀ i₀ at i = (i ≤ n) × (at ≡ 10 * i) × To records 
 abbrev μ-loop : tie.MeasureT-loop
 μ-loop records n at₀ i₀ at i = n - i
 
--- src/lib.rt:216:5
 loop-holds : tie.Need-loop-holds Inv-loop μ-loop
 loop-holds c = search (task-start, needs)
 
--- src/lib.rt:217:33
 add-byte : tie.Need-add-byte Inv-loop μ-loop
 add-byte c = search needs
 
--- src/lib.rt:217:12
 byte-requires : tie.Need-byte-requires Inv-loop μ-loop
 byte-requires c κs = search needs
 
--- src/lib.rt:218:57
 add-t9 : tie.Need-add-t9 Inv-loop μ-loop
 add-t9 c = search needs
 
--- src/lib.rt:218:56
 cast-t10 : tie.Need-cast-t10 Inv-loop μ-loop
 cast-t10 c = search needs
 
--- src/lib.rt:218:52
 add-t11 : tie.Need-add-t11 Inv-loop μ-loop
 add-t11 c = search needs
 
--- src/lib.rt:218:13
 returns : tie.Need-returns Inv-loop μ-loop
 returns c = search (task-hit, needs)
 
--- src/lib.rt:220:9
 add-at : tie.Need-add-at Inv-loop μ-loop
 add-at c = search needs
 
--- src/lib.rt:221:9
 add-i : tie.Need-add-i Inv-loop μ-loop
 add-i c = search needs
 
--- src/lib.rt:216:5
 loop-less : tie.Need-loop-less Inv-loop μ-loop
 loop-less c = search needs
 
--- src/lib.rt:216:5
 loop-again : tie.Need-loop-again Inv-loop μ-loop
 loop-again c = (search needs, search needs, search (task-turn, needs))
 
--- src/lib.rt:211:1
 returns-2 : tie.Need-returns-2 Inv-loop μ-loop
 returns-2 c = search (task-end, needs)
 

@@ -14,43 +14,33 @@ Inv-loop count next₀ i₀ next i = (i ≤ count) × Aged next₀ i next
 abbrev μ-loop : tie.MeasureT-loop
 μ-loop count next₀ i₀ next i = count - i
 
--- src/lib.rt:150:5
 loop-holds : tie.Need-loop-holds Inv-loop μ-loop
 loop-holds c = search (aging-start, array-length, needs)
 
--- src/lib.rt:151:17
 mul-t : tie.Need-mul-t Inv-loop μ-loop
 mul-t c = search needs
 
--- src/lib.rt:151:17
 element-copy-out-t : tie.Need-element-copy-out-t Inv-loop μ-loop
 element-copy-out-t c = search needs
 
--- src/lib.rt:152:13
 aged-requires : tie.Need-aged-requires Inv-loop μ-loop
 aged-requires c κs = search needs
 
--- src/lib.rt:153:9
 mul-later : tie.Need-mul-later Inv-loop μ-loop
 mul-later c = search needs
 
--- src/lib.rt:153:9
 element-set-from-later : tie.Need-element-set-from-later Inv-loop μ-loop
 element-set-from-later c = search needs
 
--- src/lib.rt:154:9
 add-i : tie.Need-add-i Inv-loop μ-loop
 add-i c = search needs
 
--- src/lib.rt:150:5
 loop-less : tie.Need-loop-less Inv-loop μ-loop
 loop-less c = search needs
 
--- src/lib.rt:150:5
 loop-again : tie.Need-loop-again Inv-loop μ-loop
 loop-again c = (search needs, search (aging-turn, array-length, needs))
 
--- src/lib.rt:143:1
 returns : tie.Need-returns Inv-loop μ-loop
 returns c = search (aging-end, needs)
 

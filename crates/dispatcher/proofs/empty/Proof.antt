@@ -5,7 +5,6 @@ use Rattle.dispatcher.proofs.empty.Tie as tie
 use Rattle.dispatcher.proofs.empty.Reads as reads
 use Rattle.dispatcher.proofs.empty.Lts as lts
 
--- src/lib.rt:220:1
 returns : tie.Need-returns
 unfolding stateOf
 returns c = search needs

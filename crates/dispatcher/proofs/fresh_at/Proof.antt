@@ -8,27 +8,21 @@ use Rattle.dispatcher.proofs.fresh.Reads as fresh-reads
 use Rattle.sheet.proofs.offset.Reads as offset-reads
 use Rattle.sheet.proofs.read_word.Reads as read-word-reads
 
--- src/lib.rt:205:9
 offset-requires : tie.Need-offset-requires
 offset-requires c κs = search needs
 
--- src/lib.rt:206:11
 read-word-requires : tie.Need-read-word-requires
 read-word-requires c κs = search needs
 
--- src/lib.rt:206:68
 add-read-word : tie.Need-add-read-word
 add-read-word c = search needs
 
--- src/lib.rt:206:42
 read-word-requires-2 : tie.Need-read-word-requires-2
 read-word-requires-2 c κs = search needs
 
--- src/lib.rt:206:5
 fresh-requires : tie.Need-fresh-requires
 fresh-requires c κs = search needs
 
--- src/lib.rt:202:1
 returns : tie.Need-returns
 returns c = search (fresh-read, needs)
 

@@ -16,43 +16,33 @@ Inv-loop records size order count core₀ i₀ core i = (i ≤ count) × Filled 
 abbrev μ-loop : tie.MeasureT-loop
 μ-loop records size order count core₀ i₀ core i = count - i
 
--- src/lib.rt:215:20
 empty-requires : tie.Need-empty-requires Inv-loop μ-loop
 empty-requires c κs = search needs
 
--- src/lib.rt:217:5
 loop-holds : tie.Need-loop-holds Inv-loop μ-loop
 loop-holds c = (search needs, search (fill-start, needs))
 
--- src/lib.rt:218:49
 element-copy-out-fresh-at : tie.Need-element-copy-out-fresh-at Inv-loop μ-loop
 element-copy-out-fresh-at c = search needs
 
--- src/lib.rt:218:25
 fresh-at-requires : tie.Need-fresh-at-requires Inv-loop μ-loop
 fresh-at-requires c κs = search needs
 
--- src/lib.rt:218:9
 mul-t14 : tie.Need-mul-t14 Inv-loop μ-loop
 mul-t14 c = search needs
 
--- src/lib.rt:218:9
 element-set-from-core : tie.Need-element-set-from-core Inv-loop μ-loop
 element-set-from-core c = search needs
 
--- src/lib.rt:219:9
 add-i : tie.Need-add-i Inv-loop μ-loop
 add-i c = search needs
 
--- src/lib.rt:217:5
 loop-less : tie.Need-loop-less Inv-loop μ-loop
 loop-less c = search needs
 
--- src/lib.rt:217:5
 loop-again : tie.Need-loop-again Inv-loop μ-loop
 loop-again c = (search needs, search (fill-turn, needs))
 
--- src/lib.rt:210:1
 returns : tie.Need-returns Inv-loop μ-loop
 returns c = search (fill-end, needs)
 

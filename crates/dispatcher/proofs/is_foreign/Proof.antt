@@ -17,67 +17,51 @@ Inv-loop core count seen₀ last₀ i₀ seen last i = (i ≤ count) × Passed (
 abbrev μ-loop : tie.MeasureT-loop
 μ-loop core count seen₀ last₀ i₀ seen last i = count - i
 
--- src/lib.rt:59:9
 returns : tie.Need-returns Inv-loop μ-loop
 returns c = search (too-many, needs)
 
--- src/lib.rt:64:5
 loop-holds : tie.Need-loop-holds Inv-loop μ-loop
 loop-holds c = (search needs, pass-start _ _ refl)
 
--- src/lib.rt:65:17
 mul-t : tie.Need-mul-t Inv-loop μ-loop
 mul-t c = search needs
 
--- src/lib.rt:65:17
 element-copy-out-t : tie.Need-element-copy-out-t Inv-loop μ-loop
 element-copy-out-t c = search needs
 
--- src/lib.rt:66:13
 is-sound-requires : tie.Need-is-sound-requires Inv-loop μ-loop
 is-sound-requires c κs = search needs
 
--- src/lib.rt:67:13
 returns-2 : tie.Need-returns-2 Inv-loop μ-loop
 returns-2 c = search (unsound, array-length, not-true, needs)
 
--- src/lib.rt:69:13
 rank-of-requires : tie.Need-rank-of-requires Inv-loop μ-loop
 rank-of-requires c κs = search needs
 
--- src/lib.rt:71:13
 returns-3 : tie.Need-returns-3 Inv-loop μ-loop
 returns-3 c = search (out-of-order, array-length, not-false, needs)
 
--- src/lib.rt:73:17
 cast-k : tie.Need-cast-k Inv-loop μ-loop
 cast-k c = search needs
 
--- src/lib.rt:74:12
 array-read-if4 : tie.Need-array-read-if4 Inv-loop μ-loop
 array-read-if4 c = search (mark-inside, not-false, needs)
 
--- src/lib.rt:75:13
 returns-4 : tie.Need-returns-4 Inv-loop μ-loop
 returns-4 c = search (repeated, array-length, not-false, needs)
 
--- src/lib.rt:77:9
 array-write-seen : tie.Need-array-write-seen Inv-loop μ-loop
 array-write-seen c = search (mark-inside, not-false, needs)
 
--- src/lib.rt:79:9
 add-i : tie.Need-add-i Inv-loop μ-loop
 add-i c = search needs
 
--- src/lib.rt:64:5
 loop-less : tie.Need-loop-less Inv-loop μ-loop
 loop-less c = search needs
 
--- src/lib.rt:64:5
 loop-again : tie.Need-loop-again Inv-loop μ-loop
 loop-again c = (search needs, search (pass-turn, array-length, not-false, needs))
 
--- src/lib.rt:54:1
 returns-5 : tie.Need-returns-5 Inv-loop μ-loop
 returns-5 c = search (pass-end, needs)
 

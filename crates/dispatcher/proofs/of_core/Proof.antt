@@ -7,15 +7,12 @@ use Rattle.dispatcher.proofs.of_core.Lts as lts
 use Rattle.dispatcher.proofs.fresh_state.Reads as fresh-state-reads
 use Rattle.fit.proofs.in_order.Reads as in-order-reads
 
--- src/lib.rt:230:28
 in-order-requires : tie.Need-in-order-requires
 in-order-requires c κs = search needs
 
--- src/lib.rt:230:5
 fresh-state-requires : tie.Need-fresh-state-requires
 fresh-state-requires c κs = search needs
 
--- src/lib.rt:226:1
 returns : tie.Need-returns
 returns c = search (fresh-core, needs)
 

@@ -7,23 +7,18 @@ use Rattle.dispatcher.proofs.spot_of.Lts as lts
 use Rattle.dispatcher.proofs.first_named.Reads as first-named-reads
 use Rattle.dispatcher.proofs.is_foreign.Reads as is-foreign-reads
 
--- src/lib.rt:141:8
 is-foreign-requires : tie.Need-is-foreign-requires
 is-foreign-requires c κs = search needs
 
--- src/lib.rt:142:9
 returns : tie.Need-returns
 returns c = search (spot-foreign, needs)
 
--- src/lib.rt:144:9
 first-named-requires : tie.Need-first-named-requires
 first-named-requires c κs = search (count-max, needs)
 
--- src/lib.rt:146:9
 returns-2 : tie.Need-returns-2
 returns-2 c = search (spot-unlisted, needs)
 
--- src/lib.rt:138:1
 returns-3 : tie.Need-returns-3
 returns-3 c = search (spot-at, needs)
 

@@ -9,39 +9,30 @@ use Rattle.dispatcher.proofs.of_list.Reads as of-list-reads
 use Rattle.dispatcher.proofs.refuse.Reads as refuse-reads
 use Rattle.jobs.proofs.check_list.Reads as check-list-reads
 
--- src/lib.rt:313:9
 check-list-requires : tie.Need-check-list-requires
 check-list-requires c κs = search needs
 
--- src/lib.rt:315:25
 enum-known-finding : tie.Need-enum-known-finding
 enum-known-finding c = search needs
 
--- src/lib.rt:315:48
 empty-requires : tie.Need-empty-requires
 empty-requires c κs = search needs
 
--- src/lib.rt:315:41
 refuse-requires : tie.Need-refuse-requires
 refuse-requires c κs = search needs
 
--- src/lib.rt:317:21
 enum-told : tie.Need-enum-told
 enum-told c = search needs
 
--- src/lib.rt:320:37
 cast-of-list : tie.Need-cast-of-list
 cast-of-list c = search list-fits
 
--- src/lib.rt:320:23
 of-list-requires : tie.Need-of-list-requires
 of-list-requires c κs = search (list-few, needs)
 
--- src/lib.rt:310:1
 returns : tie.Need-returns
 returns c = search (list-refused, needs)
 
--- src/lib.rt:310:1
 returns-2 : tie.Need-returns-2
 returns-2 c = search (list-starts, needs)
 

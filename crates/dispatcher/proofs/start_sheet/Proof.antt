@@ -9,67 +9,51 @@ use Rattle.dispatcher.proofs.empty.Reads as empty-reads
 use Rattle.dispatcher.proofs.of_core.Reads as of-core-reads
 use Rattle.dispatcher.proofs.refuse.Reads as refuse-reads
 
--- src/lib.rt:294:9
 check-requires : tie.Need-check-requires
 check-requires c κs = search needs
 
--- src/lib.rt:296:28
 enum-known-verdict : tie.Need-enum-known-verdict
 enum-known-verdict c = search needs
 
--- src/lib.rt:296:52
 empty-requires : tie.Need-empty-requires
 empty-requires c κs = search needs
 
--- src/lib.rt:296:45
 refuse-requires : tie.Need-refuse-requires
 refuse-requires c κs = search needs
 
--- src/lib.rt:297:29
 enum-known-verdict-2 : tie.Need-enum-known-verdict-2
 enum-known-verdict-2 c = search needs
 
--- src/lib.rt:298:17
 cast-if1 : tie.Need-cast-if1
 cast-if1 c = search needs
 
--- src/lib.rt:299:31
 empty-requires-2 : tie.Need-empty-requires-2
 empty-requires-2 c κs = search needs
 
--- src/lib.rt:299:17
 refuse-requires-2 : tie.Need-refuse-requires-2
 refuse-requires-2 c κs = search needs
 
--- src/lib.rt:299:17
 returns : tie.Need-returns
 returns c = (search (sheet-no-core, needs), search (refused-timely, needs))
 
--- src/lib.rt:303:31
 sub-of-core : tie.Need-sub-of-core
 sub-of-core c = search (sheet-header, needs)
 
--- src/lib.rt:303:31
 part-of-core-start : tie.Need-part-of-core-start
 part-of-core-start c = search (sheet-header, needs)
 
--- src/lib.rt:303:31
 part-of-core-end : tie.Need-part-of-core-end
 part-of-core-end c = search needs
 
--- src/lib.rt:303:51
 cast-of-core : tie.Need-cast-of-core
 cast-of-core c = search needs
 
--- src/lib.rt:303:23
 of-core-requires : tie.Need-of-core-requires
 of-core-requires c κs = search (sheet-few, needs)
 
--- src/lib.rt:290:1
 returns-2 : tie.Need-returns-2
 returns-2 c = (search (sheet-refused, needs), search (refused-timely, needs))
 
--- src/lib.rt:290:1
 returns-3 : tie.Need-returns-3
 returns-3 c = (search (sheet-starts, needs), search (sheet-timely, needs))
 

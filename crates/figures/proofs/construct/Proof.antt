@@ -7,28 +7,22 @@ use Rattle.figures.proofs.construct.Lts as lts
 use Rattle.figures.proofs.dct.Reads as dct-reads
 use Rattle.figures.proofs.sr.Reads as sr-reads
 
--- src/lib.rt:205:21
 enum-told : tie.Need-enum-told
 enum-told c = search needs
 
--- src/lib.rt:205:21
 sr-requires : tie.Need-sr-requires
 sr-requires c κs = search needs
 
--- src/lib.rt:206:22
 enum-told-2 : tie.Need-enum-told-2
 enum-told-2 c = search needs
 
--- src/lib.rt:206:22
 dct-requires : tie.Need-dct-requires
 dct-requires c κs = search needs
 
--- src/lib.rt:200:1
 returns : tie.Need-returns
 unfolding construction
 returns c = rw (c .before .enum-told .given .1) (c .sr .ensures)
 
--- src/lib.rt:200:1
 returns-2 : tie.Need-returns-2
 unfolding construction
 returns-2 c = rw (c .before .enum-told2 .given .1) (c .dct .ensures)

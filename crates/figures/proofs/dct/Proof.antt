@@ -8,31 +8,24 @@ use Rattle.figures.proofs.divisors.Reads as divisors-reads
 use Rattle.figures.proofs.lower_factors.Reads as lower-factors-reads
 use Rattle.figures.proofs.upper_factors.Reads as upper-factors-reads
 
--- src/lib.rt:160:16
 divisors-requires : tie.Need-divisors-requires
 divisors-requires c κs = search needs
 
--- src/lib.rt:161:13
 array-read-d : tie.Need-array-read-d
 array-read-d c = search needs
 
--- src/lib.rt:162:52
 lower-factors-requires : tie.Need-lower-factors-requires
 lower-factors-requires c κs = search (dct-positive, needs)
 
--- src/lib.rt:162:9
 upper-factors-requires : tie.Need-upper-factors-requires
 upper-factors-requires c κs = (search needs, search (dct-divisor, needs), search (dct-lower, needs))
 
--- src/lib.rt:164:16
 mul-t11 : tie.Need-mul-t11
 mul-t11 c = search needs
 
--- src/lib.rt:164:16
 shared-slice-read-t13 : tie.Need-shared-slice-read-t13
 shared-slice-read-t13 c = search needs
 
--- src/lib.rt:156:1
 returns : tie.Need-returns
 returns c = search (dct-end, needs)
 

@@ -15,72 +15,55 @@ Inv-loop periods pivot q list₀ d₀ i₀ list d i = (i ≤ pivot) × DownLoop 
 abbrev μ-loop : tie.MeasureT-loop
 μ-loop periods pivot q list₀ d₀ i₀ list d i = i
 
--- src/lib.rt:110:18
 mul-wide : tie.Need-mul-wide Inv-loop μ-loop
 mul-wide c = search needs
 
--- src/lib.rt:110:18
 shared-slice-read-wide : tie.Need-shared-slice-read-wide Inv-loop μ-loop
 shared-slice-read-wide c = search needs
 
--- src/lib.rt:110:9
 wide-requires : tie.Need-wide-requires Inv-loop μ-loop
 wide-requires c κs = search needs
 
--- src/lib.rt:112:5
 mul-list : tie.Need-mul-list Inv-loop μ-loop
 mul-list c = search needs
 
--- src/lib.rt:112:5
 array-write-list : tie.Need-array-write-list Inv-loop μ-loop
 array-write-list c = search needs
 
--- src/lib.rt:115:5
 loop-holds : tie.Need-loop-holds Inv-loop μ-loop
 loop-holds c = search (down-start, needs)
 
--- src/lib.rt:116:9
 sub-i : tie.Need-sub-i Inv-loop μ-loop
 sub-i c = search needs
 
--- src/lib.rt:117:31
 mul-wide-2 : tie.Need-mul-wide-2 Inv-loop μ-loop
 mul-wide-2 c = search needs
 
--- src/lib.rt:117:31
 shared-slice-read-wide-2 : tie.Need-shared-slice-read-wide-2 Inv-loop μ-loop
 shared-slice-read-wide-2 c = search needs
 
--- src/lib.rt:117:26
 wide-requires-2 : tie.Need-wide-requires-2 Inv-loop μ-loop
 wide-requires-2 c κs = search needs
 
--- src/lib.rt:117:9
 down-step-requires : tie.Need-down-step-requires Inv-loop μ-loop
 down-step-requires c κs =
     (search (ranges, needs), search (ranges, needs), search (down-low, needs), search (down-high, needs), search needs, search (divisor-high, needs))
 
--- src/lib.rt:118:19
 cast-list : tie.Need-cast-list Inv-loop μ-loop
 cast-list c = search (down-fits, needs)
 
--- src/lib.rt:118:9
 mul-list-2 : tie.Need-mul-list-2 Inv-loop μ-loop
 mul-list-2 c = search needs
 
--- src/lib.rt:118:9
 array-write-list-2 : tie.Need-array-write-list-2 Inv-loop μ-loop
 array-write-list-2 c = search needs
 
--- src/lib.rt:115:5
 loop-less : tie.Need-loop-less Inv-loop μ-loop
 loop-less c = search needs
 
--- src/lib.rt:115:5
 loop-again : tie.Need-loop-again Inv-loop μ-loop
 loop-again c = (search needs, search (down-turn, needs))
 
--- src/lib.rt:106:1
 returns : tie.Need-returns Inv-loop μ-loop
 returns c = search (down-end, needs)
 

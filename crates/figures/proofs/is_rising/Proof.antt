@@ -13,39 +13,30 @@ Inv-loop periods before₀ i₀ before i = (i ≤ length periods) × RisingLoop 
 abbrev μ-loop : tie.MeasureT-loop
 μ-loop periods before₀ i₀ before i = length periods - i
 
--- src/lib.rt:247:5
 loop-holds : tie.Need-loop-holds Inv-loop μ-loop
 loop-holds c = search (rising-start, needs)
 
--- src/lib.rt:248:17
 mul-p : tie.Need-mul-p Inv-loop μ-loop
 mul-p c = search needs
 
--- src/lib.rt:248:17
 shared-slice-read-p : tie.Need-shared-slice-read-p Inv-loop μ-loop
 shared-slice-read-p c = search needs
 
--- src/lib.rt:250:13
 returns : tie.Need-returns Inv-loop μ-loop
 returns c = search (rising-low, needs)
 
--- src/lib.rt:253:13
 returns-2 : tie.Need-returns-2 Inv-loop μ-loop
 returns-2 c = search (rising-high, needs)
 
--- src/lib.rt:256:9
 add-i : tie.Need-add-i Inv-loop μ-loop
 add-i c = search needs
 
--- src/lib.rt:247:5
 loop-less : tie.Need-loop-less Inv-loop μ-loop
 loop-less c = search needs
 
--- src/lib.rt:247:5
 loop-again : tie.Need-loop-again Inv-loop μ-loop
 loop-again c = (search needs, search (rising-turn, needs))
 
--- src/lib.rt:242:1
 returns-3 : tie.Need-returns-3 Inv-loop μ-loop
 returns-3 c = search (rising-end, needs)
 

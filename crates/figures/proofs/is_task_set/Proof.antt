@@ -6,19 +6,15 @@ use Rattle.figures.proofs.is_task_set.Reads as reads
 use Rattle.figures.proofs.is_task_set.Lts as lts
 use Rattle.figures.proofs.is_rising.Reads as is-rising-reads
 
--- src/lib.rt:265:9
 returns : tie.Need-returns
 returns c = search (set-long, needs)
 
--- src/lib.rt:268:9
 returns-2 : tie.Need-returns-2
 returns-2 c = search (set-uneven, needs)
 
--- src/lib.rt:270:5
 is-rising-requires : tie.Need-is-rising-requires
 is-rising-requires c κs = search needs
 
--- src/lib.rt:261:1
 returns-3 : tie.Need-returns-3
 returns-3 c = search (set-even, needs)
 

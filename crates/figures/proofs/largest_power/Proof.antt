@@ -13,35 +13,27 @@ Inv-loop base q limit from power₀ next₀ power next = Climb base q limit powe
 abbrev μ-loop : tie.MeasureT-loop
 μ-loop base q limit from power₀ next₀ power next = suc limit - next
 
--- src/lib.rt:58:20
 mul-next : tie.Need-mul-next Inv-loop μ-loop
 mul-next c = search (product-fits, needs)
 
--- src/lib.rt:58:20
 mul-next-2 : tie.Need-mul-next-2 Inv-loop μ-loop
 mul-next-2 c = search (next-fits, needs)
 
--- src/lib.rt:59:5
 loop-holds : tie.Need-loop-holds Inv-loop μ-loop
 loop-holds c = search (climb-start, needs)
 
--- src/lib.rt:60:9
 mul-power : tie.Need-mul-power Inv-loop μ-loop
 mul-power c = search (climb-power-fits, needs)
 
--- src/lib.rt:61:9
 mul-next-3 : tie.Need-mul-next-3 Inv-loop μ-loop
 mul-next-3 c = search (climb-fits, needs)
 
--- src/lib.rt:59:5
 loop-less : tie.Need-loop-less Inv-loop μ-loop
 loop-less c = let p = c .before .before .pre in climb-less _ _ _ _ (p .0) (p .1) (p .2) (p .3) _ (c .before .loop .inv) (omega arith)
 
--- src/lib.rt:59:5
 loop-again : tie.Need-loop-again Inv-loop μ-loop
 loop-again c = let p = c .before .before .pre in climb-turn _ _ _ _ (p .0) (p .1) (p .2) (p .3) _ (c .before .loop .inv) (omega arith)
 
--- src/lib.rt:53:1
 returns : tie.Need-returns Inv-loop μ-loop
 returns c = search (climb-end, needs)
 

@@ -12,27 +12,21 @@ Inv-loop base q p power₀ reach₀ power reach = Reach base q p power reach
 abbrev μ-loop : tie.MeasureT-loop
 μ-loop base q p power₀ reach₀ power reach = q - reach
 
--- src/lib.rt:45:5
 loop-holds : tie.Need-loop-holds Inv-loop μ-loop
 loop-holds c = search (reach-start, needs)
 
--- src/lib.rt:46:9
 mul-power : tie.Need-mul-power Inv-loop μ-loop
 mul-power c = search (reach-power-fits, needs)
 
--- src/lib.rt:47:9
 mul-reach : tie.Need-mul-reach Inv-loop μ-loop
 mul-reach c = search (reach-fits, needs)
 
--- src/lib.rt:45:5
 loop-less : tie.Need-loop-less Inv-loop μ-loop
 loop-less c = search (reach-less, needs)
 
--- src/lib.rt:45:5
 loop-again : tie.Need-loop-again Inv-loop μ-loop
 loop-again c = search (reach-turn, needs)
 
--- src/lib.rt:39:1
 returns : tie.Need-returns Inv-loop μ-loop
 returns c = search (reach-end, needs)
 

@@ -12,47 +12,36 @@ Inv-loop pivot divisors d factors₀ i₀ factors i = (i ≤ pivot + 1) × Lower
 abbrev μ-loop : tie.MeasureT-loop
 μ-loop pivot divisors d factors₀ i₀ factors i = pivot + 1 - i
 
--- src/lib.rt:128:13
 array-read-d : tie.Need-array-read-d Inv-loop μ-loop
 array-read-d c = search needs
 
--- src/lib.rt:131:5
 loop-holds : tie.Need-loop-holds Inv-loop μ-loop
 loop-holds c = search (lower-start, needs)
 
--- src/lib.rt:132:26
 mul-factors : tie.Need-mul-factors Inv-loop μ-loop
 mul-factors c = search needs
 
--- src/lib.rt:132:26
 array-read-factors : tie.Need-array-read-factors Inv-loop μ-loop
 array-read-factors c = search needs
 
--- src/lib.rt:132:22
 div-factors : tie.Need-div-factors Inv-loop μ-loop
 div-factors c = search (c .before .before .pre .1, needs)
 
--- src/lib.rt:132:9
 mul-factors-2 : tie.Need-mul-factors-2 Inv-loop μ-loop
 mul-factors-2 c = search needs
 
--- src/lib.rt:132:9
 array-write-factors : tie.Need-array-write-factors Inv-loop μ-loop
 array-write-factors c = search needs
 
--- src/lib.rt:133:9
 add-i : tie.Need-add-i Inv-loop μ-loop
 add-i c = search needs
 
--- src/lib.rt:131:5
 loop-less : tie.Need-loop-less Inv-loop μ-loop
 loop-less c = search needs
 
--- src/lib.rt:131:5
 loop-again : tie.Need-loop-again Inv-loop μ-loop
 loop-again c = (search needs, search (lower-turn, needs))
 
--- src/lib.rt:124:1
 returns : tie.Need-returns Inv-loop μ-loop
 returns c = search (lower-end, needs)
 

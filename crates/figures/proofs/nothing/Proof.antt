@@ -6,7 +6,6 @@ use Rattle.figures.proofs.nothing.Tie as tie
 use Rattle.figures.proofs.nothing.Reads as reads
 use Rattle.figures.proofs.nothing.Lts as lts
 
--- src/lib.rt:210:1
 returns : tie.Need-returns
 unfolding padded written outcome
 returns c = refl

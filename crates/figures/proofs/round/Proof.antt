@@ -16,39 +16,30 @@ Inv-loop kind periods budgets i₀ i = (i ≤ length periods) × RoundLoop kind 
 abbrev μ-loop : tie.MeasureT-loop
 μ-loop kind periods budgets i₀ i = length periods - i
 
--- src/lib.rt:229:5
 loop-holds : tie.Need-loop-holds Inv-loop μ-loop
 loop-holds c = search (round-start, needs)
 
--- src/lib.rt:230:13
 construct-requires : tie.Need-construct-requires Inv-loop μ-loop
 construct-requires c κs = search (round-ready, needs)
 
--- src/lib.rt:231:12
 passes-requires : tie.Need-passes-requires Inv-loop μ-loop
 passes-requires c κs = search (round-usable, needs)
 
--- src/lib.rt:232:13
 returns : tie.Need-returns Inv-loop μ-loop
 returns c = search (round-hit, needs)
 
--- src/lib.rt:237:9
 add-i : tie.Need-add-i Inv-loop μ-loop
 add-i c = search needs
 
--- src/lib.rt:229:5
 loop-less : tie.Need-loop-less Inv-loop μ-loop
 loop-less c = search needs
 
--- src/lib.rt:229:5
 loop-again : tie.Need-loop-again Inv-loop μ-loop
 loop-again c = (search needs, search (round-turn, needs))
 
--- src/lib.rt:239:5
 nothing-requires : tie.Need-nothing-requires Inv-loop μ-loop
 nothing-requires c κs = search needs
 
--- src/lib.rt:224:1
 returns-2 : tie.Need-returns-2 Inv-loop μ-loop
 returns-2 c = search (round-end, needs)
 

@@ -5,19 +5,15 @@ use Rattle.figures.proofs.round_up.Tie as tie
 use Rattle.figures.proofs.round_up.Reads as reads
 use Rattle.figures.proofs.round_up.Lts as lts
 
--- src/lib.rt:92:6
 add-result : tie.Need-add-result
 add-result c = search needs
 
--- src/lib.rt:92:6
 sub-result : tie.Need-sub-result
 sub-result c = search needs
 
--- src/lib.rt:92:5
 div-result : tie.Need-div-result
 div-result c = search needs
 
--- src/lib.rt:88:1
 returns : tie.Need-returns
 unfolding ceiling
 returns c = search needs

@@ -8,23 +8,18 @@ use Rattle.figures.proofs.share.Tie as tie
 use Rattle.figures.proofs.share.Reads as reads
 use Rattle.figures.proofs.share.Lts as lts
 
--- src/lib.rt:174:5
 mul-result : tie.Need-mul-result
 mul-result c = let a = c .args in omega (arith, share-bound (a .e) (a .d) (a .last) (a .m) (omega arith) (omega arith) (omega arith) .0)
 
--- src/lib.rt:174:15
 div-result : tie.Need-div-result
 div-result c = search needs
 
--- src/lib.rt:174:14
 cast-result : tie.Need-cast-result
 cast-result c = omega (arith, div-le-self (c .args .last) (c .args .m))
 
--- src/lib.rt:174:5
 mul-result-2 : tie.Need-mul-result-2
 mul-result-2 c = let a = c .args in omega (arith, share-bound (a .e) (a .d) (a .last) (a .m) (omega arith) (omega arith) (omega arith) .1)
 
--- src/lib.rt:170:1
 returns : tie.Need-returns
 returns c = let a = c .args in (refl, share-bound (a .e) (a .d) (a .last) (a .m) (omega arith) (omega arith) (omega arith) .1)
 

@@ -17,92 +17,70 @@ Inv-loop base periods pivot q d factors₀ power₀ i₀ factors power i = (i �
 abbrev μ-loop : tie.MeasureT-loop
 μ-loop base periods pivot q d factors₀ power₀ i₀ factors power i = length periods - i
 
--- src/lib.rt:71:18
 mul-wide : tie.Need-mul-wide Inv-loop μ-loop
 mul-wide c = search needs
 
--- src/lib.rt:71:18
 shared-slice-read-wide : tie.Need-shared-slice-read-wide Inv-loop μ-loop
 shared-slice-read-wide c = search needs
 
--- src/lib.rt:71:9
 wide-requires : tie.Need-wide-requires Inv-loop μ-loop
 wide-requires c κs = search needs
 
--- src/lib.rt:72:39
 shared-slice-read-wide-2 : tie.Need-shared-slice-read-wide-2 Inv-loop μ-loop
 shared-slice-read-wide-2 c = search needs
 
--- src/lib.rt:72:34
 wide-requires-2 : tie.Need-wide-requires-2 Inv-loop μ-loop
 wide-requires-2 c κs = search needs
 
--- src/lib.rt:72:9
 least-power-requires : tie.Need-least-power-requires Inv-loop μ-loop
 least-power-requires c κs = search (ranges, needs)
 
--- src/lib.rt:76:5
 loop-holds : tie.Need-loop-holds Inv-loop μ-loop
 loop-holds c = search (sr-start, needs)
 
--- src/lib.rt:77:45
 mul-wide-2 : tie.Need-mul-wide-2 Inv-loop μ-loop
 mul-wide-2 c = search needs
 
--- src/lib.rt:77:45
 shared-slice-read-wide-3 : tie.Need-shared-slice-read-wide-3 Inv-loop μ-loop
 shared-slice-read-wide-3 c = search needs
 
--- src/lib.rt:77:40
 wide-requires-3 : tie.Need-wide-requires-3 Inv-loop μ-loop
 wide-requires-3 c κs = search needs
 
--- src/lib.rt:77:40
 mul-largest-power : tie.Need-mul-largest-power Inv-loop μ-loop
 mul-largest-power c = search (limit-fits, needs)
 
--- src/lib.rt:77:9
 largest-power-requires : tie.Need-largest-power-requires Inv-loop μ-loop
 largest-power-requires c κs =
     (search needs, search needs, search (pivot-positive, needs), search (limit-small, needs), search (power-fits, needs), search needs)
 
--- src/lib.rt:78:22
 cast-factors : tie.Need-cast-factors Inv-loop μ-loop
 cast-factors c = search (factor-fits, needs)
 
--- src/lib.rt:78:9
 mul-factors : tie.Need-mul-factors Inv-loop μ-loop
 mul-factors c = search needs
 
--- src/lib.rt:78:9
 array-write-factors : tie.Need-array-write-factors Inv-loop μ-loop
 array-write-factors c = search needs
 
--- src/lib.rt:79:9
 add-i : tie.Need-add-i Inv-loop μ-loop
 add-i c = search needs
 
--- src/lib.rt:76:5
 loop-less : tie.Need-loop-less Inv-loop μ-loop
 loop-less c = search needs
 
--- src/lib.rt:76:5
 loop-again : tie.Need-loop-again Inv-loop μ-loop
 loop-again c = (search needs, sr-turn _ _ _ _ _ _ _ _ (c .before .before .before .before .loop .inv .1) _ (c .before .before .before .loop-test .taken) (c .before .wide3 .ensures .0) _ (c .largest-power .ensures))
 
--- src/lib.rt:82:16
 mul-t9 : tie.Need-mul-t9 Inv-loop μ-loop
 mul-t9 c = search needs
 
--- src/lib.rt:82:16
 shared-slice-read-t11 : tie.Need-shared-slice-read-t11 Inv-loop μ-loop
 shared-slice-read-t11 c = search needs
 
--- src/lib.rt:83:18
 cast-t24 : tie.Need-cast-t24 Inv-loop μ-loop
 cast-t24 c = search (divisor-fits, needs)
 
--- src/lib.rt:67:1
 returns : tie.Need-returns Inv-loop μ-loop
 returns c = search (sr-end, needs)
 

@@ -16,68 +16,52 @@ Inv-loop periods pivot d q factors₀ m₀ i₀ factors m i = (i ≤ length peri
 abbrev μ-loop : tie.MeasureT-loop
 μ-loop periods pivot d q factors₀ m₀ i₀ factors m i = length periods - i
 
--- src/lib.rt:143:18
 mul-wide : tie.Need-mul-wide Inv-loop μ-loop
 mul-wide c = search needs
 
--- src/lib.rt:143:18
 shared-slice-read-wide : tie.Need-shared-slice-read-wide Inv-loop μ-loop
 shared-slice-read-wide c = search needs
 
--- src/lib.rt:143:9
 wide-requires : tie.Need-wide-requires Inv-loop μ-loop
 wide-requires c κs = search needs
 
--- src/lib.rt:146:17
 add-i : tie.Need-add-i Inv-loop μ-loop
 add-i c = search needs
 
--- src/lib.rt:147:5
 loop-holds : tie.Need-loop-holds Inv-loop μ-loop
 loop-holds c = search (upper-start, needs)
 
--- src/lib.rt:148:29
 mul-wide-2 : tie.Need-mul-wide-2 Inv-loop μ-loop
 mul-wide-2 c = search needs
 
--- src/lib.rt:148:29
 shared-slice-read-wide-2 : tie.Need-shared-slice-read-wide-2 Inv-loop μ-loop
 shared-slice-read-wide-2 c = search needs
 
--- src/lib.rt:148:24
 wide-requires-2 : tie.Need-wide-requires-2 Inv-loop μ-loop
 wide-requires-2 c κs = search needs
 
--- src/lib.rt:148:9
 up-step-requires : tie.Need-up-step-requires Inv-loop μ-loop
 up-step-requires c κs =
     (search (ranges, needs), search (ranges, needs), search (ranges, needs), search (upper-divisor, needs), search (upper-low, needs), search (upper-high, needs))
 
--- src/lib.rt:149:22
 cast-factors : tie.Need-cast-factors Inv-loop μ-loop
 cast-factors c = search (upper-fits, needs)
 
--- src/lib.rt:149:9
 mul-factors : tie.Need-mul-factors Inv-loop μ-loop
 mul-factors c = search needs
 
--- src/lib.rt:149:9
 array-write-factors : tie.Need-array-write-factors Inv-loop μ-loop
 array-write-factors c = search needs
 
--- src/lib.rt:150:9
 add-i-2 : tie.Need-add-i-2 Inv-loop μ-loop
 add-i-2 c = search needs
 
--- src/lib.rt:147:5
 loop-less : tie.Need-loop-less Inv-loop μ-loop
 loop-less c = search needs
 
--- src/lib.rt:147:5
 loop-again : tie.Need-loop-again Inv-loop μ-loop
 loop-again c = (search needs, search (upper-turn, needs))
 
--- src/lib.rt:139:1
 returns : tie.Need-returns Inv-loop μ-loop
 returns c = search (upper-end, needs)
 

@@ -11,41 +11,32 @@ use Rattle.jobs.proofs.first.Reads as first-reads
 use Rattle.jobs.proofs.is_over_count.Reads as is-over-count-reads
 use Rattle.jobs.proofs.is_uneven.Reads as is-uneven-reads
 
--- src/lib.rt:76:8
 is-uneven-requires : tie.Need-is-uneven-requires
 is-uneven-requires c κs = search needs
 
--- src/lib.rt:77:9
 returns : tie.Need-returns
 unfolding listRows jobCount
 returns c = search (scan-skip, scan-hit, scan-none, whole-true, whole-false, found-at, found-none) depth 8
 
--- src/lib.rt:79:8
 is-over-count-requires : tie.Need-is-over-count-requires
 is-over-count-requires c κs = search needs
 
--- src/lib.rt:80:9
 returns-2 : tie.Need-returns-2
 unfolding listRows jobCount
 returns-2 c = search (scan-skip, scan-hit, scan-none, whole-true, whole-false, found-at, found-none) depth 8
 
--- src/lib.rt:82:13
 cast-n : tie.Need-cast-n
 cast-n c = omega (arith, few (c .before .before .before .before .before .args .jobs .now) (c .before .before .before .before .before .args .limit) _ (c .before .is-over-count .ensures) (c .if2 .left))
 
--- src/lib.rt:83:9
 first-requires : tie.Need-first-requires
 first-requires c κs = search needs
 
--- src/lib.rt:84:22
 enum-known-period : tie.Need-enum-known-period
 enum-known-period c = search needs
 
--- src/lib.rt:85:49
 cast-t16 : tie.Need-cast-t16
 cast-t16 c = search needs
 
--- src/lib.rt:85:9
 returns-3 : tie.Need-returns-3
 unfolding listRows jobCount
 returns-3 c = search (scan-skip, scan-hit, scan-none, whole-true, whole-false, found-at, found-none) depth 8
@@ -53,19 +44,15 @@ returns-3 c = search (scan-skip, scan-hit, scan-none, whole-true, whole-false, f
 enum-told : tie.Need-enum-told
 enum-told c = search needs
 
--- src/lib.rt:87:9
 first-requires-2 : tie.Need-first-requires-2
 first-requires-2 c κs = search needs
 
--- src/lib.rt:88:22
 enum-known-budget : tie.Need-enum-known-budget
 enum-known-budget c = search needs
 
--- src/lib.rt:89:49
 cast-t18 : tie.Need-cast-t18
 cast-t18 c = search needs
 
--- src/lib.rt:89:9
 returns-4 : tie.Need-returns-4
 unfolding listRows jobCount
 returns-4 c = search (scan-skip, scan-hit, scan-none, whole-true, whole-false, found-at, found-none) depth 8
@@ -73,7 +60,6 @@ returns-4 c = search (scan-skip, scan-hit, scan-none, whole-true, whole-false, f
 enum-told-2 : tie.Need-enum-told-2
 enum-told-2 c = search needs
 
--- src/lib.rt:73:1
 returns-5 : tie.Need-returns-5
 unfolding listRows jobCount
 returns-5 c = search (scan-skip, scan-hit, scan-none, whole-true, whole-false, found-at, found-none) depth 8

@@ -7,19 +7,15 @@ use Rattle.jobs.proofs.in_order.Lts as lts
 use Rattle.fit.proofs.periods_of.Reads as periods-of-reads
 use Rattle.fit.proofs.sorted.Reads as sorted-reads
 
--- src/lib.rt:23:19
 periods-of-requires : tie.Need-periods-of-requires
 periods-of-requires c κs = search needs
 
--- src/lib.rt:24:21
 slice-aggregate-sorted : tie.Need-slice-aggregate-sorted
 slice-aggregate-sorted c = search needs
 
--- src/lib.rt:24:5
 sorted-requires : tie.Need-sorted-requires
 sorted-requires c κs = search needs
 
--- src/lib.rt:20:1
 returns : tie.Need-returns
 returns c = search (sorted-column, needs)
 

@@ -4,7 +4,6 @@ use Rattle.jobs.proofs.is_over_count.Tie as tie
 use Rattle.jobs.proofs.is_over_count.Reads as reads
 use Rattle.jobs.proofs.is_over_count.Lts as lts
 
--- src/lib.rt:68:1
 returns : tie.Need-returns
 unfolding jobCount
 returns c = cc

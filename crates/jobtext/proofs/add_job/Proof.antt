@@ -6,67 +6,51 @@ use Rattle.jobtext.proofs.add_job.Reads as reads
 use Rattle.jobtext.proofs.add_job.Lts as lts
 use Rattle.jobtext.proofs.empty_line.Reads as empty-line-reads
 
--- src/lib.rt:169:14
 mul-at : tie.Need-mul-at
 mul-at c = search needs
 
--- src/lib.rt:171:16
 cast-jobs : tie.Need-cast-jobs
 cast-jobs c = search needs
 
--- src/lib.rt:171:5
 array-write-jobs : tie.Need-array-write-jobs
 array-write-jobs c = search needs
 
--- src/lib.rt:172:20
 cast-jobs-2 : tie.Need-cast-jobs-2
 cast-jobs-2 c = search needs
 
--- src/lib.rt:172:10
 add-jobs : tie.Need-add-jobs
 add-jobs c = search needs
 
--- src/lib.rt:172:5
 array-write-jobs-2 : tie.Need-array-write-jobs-2
 array-write-jobs-2 c = search needs
 
--- src/lib.rt:173:20
 cast-jobs-3 : tie.Need-cast-jobs-3
 cast-jobs-3 c = search needs
 
--- src/lib.rt:173:10
 add-jobs-2 : tie.Need-add-jobs-2
 add-jobs-2 c = search needs
 
--- src/lib.rt:173:5
 array-write-jobs-3 : tie.Need-array-write-jobs-3
 array-write-jobs-3 c = search needs
 
--- src/lib.rt:174:20
 cast-jobs-4 : tie.Need-cast-jobs-4
 cast-jobs-4 c = search needs
 
--- src/lib.rt:174:10
 add-jobs-3 : tie.Need-add-jobs-3
 add-jobs-3 c = search needs
 
--- src/lib.rt:174:5
 array-write-jobs-4 : tie.Need-array-write-jobs-4
 array-write-jobs-4 c = search needs
 
--- src/lib.rt:176:17
 add-t17 : tie.Need-add-t17
 add-t17 c = search needs
 
--- src/lib.rt:177:15
 empty-line-requires : tie.Need-empty-line-requires
 empty-line-requires c κs = search needs
 
--- src/lib.rt:179:16
 add-t10 : tie.Need-add-t10
 add-t10 c = search needs
 
--- src/lib.rt:163:1
 returns : tie.Need-returns
 returns c = search add-next
 

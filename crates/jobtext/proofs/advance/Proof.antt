@@ -7,23 +7,18 @@ use Rattle.jobtext.proofs.advance.Lts as lts
 use Rattle.jobtext.proofs.end_line.Reads as end-line-reads
 use Rattle.jobtext.proofs.read_byte.Reads as read-byte-reads
 
--- src/lib.rt:238:9
 returns : tie.Need-returns
 returns c = search step-stopped
 
--- src/lib.rt:241:9
 end-line-requires : tie.Need-end-line-requires
 end-line-requires c κs = search needs
 
--- src/lib.rt:241:9
 returns-2 : tie.Need-returns-2
 returns-2 c = search step-end
 
--- src/lib.rt:243:9
 read-byte-requires : tie.Need-read-byte-requires
 read-byte-requires c κs = search needs
 
--- src/lib.rt:233:1
 returns-3 : tie.Need-returns-3
 returns-3 c = search step-byte
 

@@ -6,19 +6,15 @@ use Rattle.jobtext.proofs.begin.Reads as reads
 use Rattle.jobtext.proofs.begin.Lts as lts
 use Rattle.jobtext.proofs.mark_bad.Reads as mark-bad-reads
 
--- src/lib.rt:79:9
 mark-bad-requires : tie.Need-mark-bad-requires
 mark-bad-requires c κs = search needs
 
--- src/lib.rt:79:9
 returns : tie.Need-returns
 returns c = search begun-third
 
--- src/lib.rt:82:18
 add-t5 : tie.Need-add-t5
 add-t5 c = search needs
 
--- src/lib.rt:74:1
 returns-2 : tie.Need-returns-2
 returns-2 c = search begun-next
 

@@ -8,35 +8,27 @@ use Rattle.jobtext.proofs.add_job.Reads as add-job-reads
 use Rattle.jobtext.proofs.next_line.Reads as next-line-reads
 use Rattle.jobtext.proofs.stop.Reads as stop-reads
 
--- src/lib.rt:221:9
 next-line-requires : tie.Need-next-line-requires
 next-line-requires c κs = search needs
 
--- src/lib.rt:221:9
 returns : tie.Need-returns
 returns c = search end-none
 
--- src/lib.rt:225:13
 add-job-requires : tie.Need-add-job-requires
 add-job-requires c κs = search needs
 
--- src/lib.rt:225:13
 returns-2 : tie.Need-returns-2
 returns-2 c = search end-job
 
--- src/lib.rt:227:9
 stop-requires : tie.Need-stop-requires
 stop-requires c κs = search needs
 
--- src/lib.rt:227:9
 returns-3 : tie.Need-returns-3
 returns-3 c = search end-full
 
--- src/lib.rt:229:5
 stop-requires-2 : tie.Need-stop-requires-2
 stop-requires-2 c κs = search needs
 
--- src/lib.rt:213:1
 returns-4 : tie.Need-returns-4
 returns-4 c = search end-wrong
 

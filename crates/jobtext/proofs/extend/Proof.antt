@@ -6,31 +6,24 @@ use Rattle.jobtext.proofs.extend.Reads as reads
 use Rattle.jobtext.proofs.extend.Lts as lts
 use Rattle.jobtext.proofs.mark_bad.Reads as mark-bad-reads
 
--- src/lib.rt:60:19
 cast-x : tie.Need-cast-x
 cast-x c = search needs
 
--- src/lib.rt:60:13
 mul-x : tie.Need-mul-x
 mul-x c = search needs
 
--- src/lib.rt:60:13
 add-x : tie.Need-add-x
 add-x c = search needs
 
--- src/lib.rt:62:9
 mark-bad-requires : tie.Need-mark-bad-requires
 mark-bad-requires c κs = search needs
 
--- src/lib.rt:62:9
 returns : tie.Need-returns
 returns c = search longer-over
 
--- src/lib.rt:69:17
 cast-t8 : tie.Need-cast-t8
 cast-t8 c = search needs
 
--- src/lib.rt:57:1
 returns-2 : tie.Need-returns-2
 returns-2 c = search longer-next
 

@@ -6,15 +6,12 @@ use Rattle.jobtext.proofs.next_line.Reads as reads
 use Rattle.jobtext.proofs.next_line.Lts as lts
 use Rattle.jobtext.proofs.empty_line.Reads as empty-line-reads
 
--- src/lib.rt:190:17
 add-t3 : tie.Need-add-t3
 add-t3 c = search needs
 
--- src/lib.rt:191:15
 empty-line-requires : tie.Need-empty-line-requires
 empty-line-requires c κs = search needs
 
--- src/lib.rt:184:1
 returns : tie.Need-returns
 returns c = search line-next
 

@@ -11,51 +11,39 @@ use Rattle.jobtext.proofs.mark_bad.Reads as mark-bad-reads
 use Rattle.jobtext.proofs.read_digit.Reads as read-digit-reads
 use Rattle.jobtext.proofs.value.Reads as value-reads
 
--- src/lib.rt:136:9
 returns : tie.Need-returns
 returns c = search in-comment
 
--- src/lib.rt:138:8
 is-digit-requires : tie.Need-is-digit-requires
 is-digit-requires c κs = search needs
 
--- src/lib.rt:139:30
 value-requires : tie.Need-value-requires
 value-requires c κs = search needs
 
--- src/lib.rt:139:9
 read-digit-requires : tie.Need-read-digit-requires
 read-digit-requires c κs = search needs
 
--- src/lib.rt:139:9
 returns-2 : tie.Need-returns-2
 returns-2 c = search in-digit
 
--- src/lib.rt:141:8
 is-blank-requires : tie.Need-is-blank-requires
 is-blank-requires c κs = search needs
 
--- src/lib.rt:142:9
 end-number-requires : tie.Need-end-number-requires
 end-number-requires c κs = search needs
 
--- src/lib.rt:142:9
 returns-3 : tie.Need-returns-3
 returns-3 c = search in-blank
 
--- src/lib.rt:145:9
 end-number-requires-2 : tie.Need-end-number-requires-2
 end-number-requires-2 c κs = search needs
 
--- src/lib.rt:145:9
 returns-4 : tie.Need-returns-4
 returns-4 c = search in-hash
 
--- src/lib.rt:147:5
 mark-bad-requires : tie.Need-mark-bad-requires
 mark-bad-requires c κs = search needs
 
--- src/lib.rt:132:1
 returns-5 : tie.Need-returns-5
 returns-5 c = search in-other
 

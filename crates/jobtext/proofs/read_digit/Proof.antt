@@ -7,19 +7,15 @@ use Rattle.jobtext.proofs.read_digit.Lts as lts
 use Rattle.jobtext.proofs.begin.Reads as begin-reads
 use Rattle.jobtext.proofs.extend.Reads as extend-reads
 
--- src/lib.rt:94:9
 extend-requires : tie.Need-extend-requires
 extend-requires c κs = search needs
 
--- src/lib.rt:94:9
 returns : tie.Need-returns
 returns c = search digit-inside
 
--- src/lib.rt:96:5
 begin-requires : tie.Need-begin-requires
 begin-requires c κs = search needs
 
--- src/lib.rt:90:1
 returns-2 : tie.Need-returns-2
 returns-2 c = search digit-first
 

@@ -9,39 +9,30 @@ use Rattle.jobtext.proofs.copy.Reads as copy-reads
 use Rattle.jobtext.proofs.read_all.Reads as read-all-reads
 use Rattle.jobtext.proofs.room_in.Reads as room-in-reads
 
--- src/lib.rt:294:28
 room-in-requires : tie.Need-room-in-requires
 room-in-requires c κs = search needs
 
--- src/lib.rt:294:9
 read-all-requires : tie.Need-read-all-requires
 read-all-requires c κs = search needs
 
--- src/lib.rt:296:9
 returns : tie.Need-returns
 returns c = (search wrong-answer, search wrong-bytes)
 
--- src/lib.rt:298:13
 mul-n : tie.Need-mul-n
 mul-n c = search needs
 
--- src/lib.rt:300:15
 slice-aggregate-copy : tie.Need-slice-aggregate-copy
 slice-aggregate-copy c = search needs
 
--- src/lib.rt:300:5
 copy-requires : tie.Need-copy-requires
 copy-requires c κs = (search needs, omega (arith, slice-aggregate-copy c))
 
--- src/lib.rt:301:16
 cast-t14 : tie.Need-cast-t14
 cast-t14 c = search needs
 
--- src/lib.rt:291:1
 same-length : tie.Need-same-length
 same-length c = search needs
 
--- src/lib.rt:291:1
 returns-2 : tie.Need-returns-2
 returns-2 c = (search jobs-answer, search jobs-bytes)
 

@@ -6,11 +6,9 @@ use Rattle.jobtext.proofs.start.Reads as reads
 use Rattle.jobtext.proofs.start.Lts as lts
 use Rattle.jobtext.proofs.empty_line.Reads as empty-line-reads
 
--- src/lib.rt:155:15
 empty-line-requires : tie.Need-empty-line-requires
 empty-line-requires c κs = search needs
 
--- src/lib.rt:150:1
 returns : tie.Need-returns
 returns c = search start-line
 

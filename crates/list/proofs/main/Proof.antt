@@ -9,70 +9,54 @@ use Rattle.io.proofs.write_all.Reads as write-all-reads
 use Rattle.listing.proofs.list_sheet.Reads as list-sheet-reads
 use Rattle.os.proofs.fail.Reads as fail-reads
 
--- src/main.rt:8:47
 slice-aggregate-read-full : tie.Need-slice-aggregate-read-full
 slice-aggregate-read-full c = search needs
 
--- src/main.rt:8:9
 read-full-requires : tie.Need-read-full-requires
 read-full-requires c κs = search needs
 
--- src/main.rt:10:38
 array-share-prefix-sheet : tie.Need-array-share-prefix-sheet
 array-share-prefix-sheet c = search needs
 
--- src/main.rt:10:38
 slice-aggregate-list-sheet : tie.Need-slice-aggregate-list-sheet
 slice-aggregate-list-sheet c = search needs
 
--- src/main.rt:10:51
 slice-aggregate-list-sheet-2 : tie.Need-slice-aggregate-list-sheet-2
 slice-aggregate-list-sheet-2 c = search needs
 
--- src/main.rt:10:9
 list-sheet-requires : tie.Need-list-sheet-requires
 list-sheet-requires c κs = search needs
 
--- src/main.rt:12:25
 enum-known-listed : tie.Need-enum-known-listed
 enum-known-listed c = search needs
 
--- src/main.rt:13:23
 cast-end : tie.Need-cast-end
 cast-end c = search needs
 
--- src/main.rt:14:52
 array-share-prefix-text : tie.Need-array-share-prefix-text
 array-share-prefix-text c = search (listed-room, needs)
 
--- src/main.rt:14:52
 slice-aggregate-write-all : tie.Need-slice-aggregate-write-all
 slice-aggregate-write-all c = search (listed-front, needs)
 
--- src/main.rt:14:17
 write-all-requires : tie.Need-write-all-requires
 write-all-requires c κs = search needs
 
--- src/main.rt:15:26
 slice-aggregate-fail : tie.Need-slice-aggregate-fail
 slice-aggregate-fail c = search needs
 
--- src/main.rt:15:17
 fail-requires : tie.Need-fail-requires
 fail-requires c κs = search needs
 
 enum-told : tie.Need-enum-told
 enum-told c = search needs
 
--- src/main.rt:4:1
 returns : tie.Need-returns
 returns c = search needs
 
--- src/main.rt:4:1
 returns-2 : tie.Need-returns-2
 returns-2 c = search needs
 
--- src/main.rt:4:1
 returns-3 : tie.Need-returns-3
 returns-3 c = search needs
 

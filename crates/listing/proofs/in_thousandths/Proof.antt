@@ -8,19 +8,15 @@ use Rattle.listing.proofs.in_thousandths.Tie as tie
 use Rattle.listing.proofs.in_thousandths.Reads as reads
 use Rattle.listing.proofs.in_thousandths.Lts as lts
 
--- src/lib.rt:138:6
 mul-result : tie.Need-mul-result
 mul-result c = search needs
 
--- src/lib.rt:138:6
 div-result : tie.Need-div-result
 div-result c = search needs
 
--- src/lib.rt:138:5
 cast-result : tie.Need-cast-result
 cast-result c = omega (arith, thousand (c .args .load) (c .args .full) (omega arith))
 
--- src/lib.rt:134:1
 returns : tie.Need-returns
 unfolding thousandths
 returns c = refl

@@ -9,55 +9,42 @@ use Rattle.listing.proofs.put_refused.Reads as put-refused-reads
 use Rattle.listing.proofs.put_sheet.Reads as put-sheet-reads
 use Rattle.sheet.proofs.number.Reads as number-reads
 
--- src/lib.rt:209:9
 returns : tie.Need-returns
 returns c = (search tight-answer, search tight-bytes)
 
--- src/lib.rt:211:9
 check-requires : tie.Need-check-requires
 check-requires c κs = search needs
 
--- src/lib.rt:213:28
 enum-known-verdict : tie.Need-enum-known-verdict
 enum-known-verdict c = search needs
 
--- src/lib.rt:214:46
 number-requires : tie.Need-number-requires
 number-requires c κs = search needs
 
--- src/lib.rt:214:29
 put-refused-requires : tie.Need-put-refused-requires
 put-refused-requires c κs = search needs
 
--- src/lib.rt:214:29
 cast-t15 : tie.Need-cast-t15
 cast-t15 c = search needs
 
--- src/lib.rt:216:29
 enum-known-verdict-2 : tie.Need-enum-known-verdict-2
 enum-known-verdict-2 c = search needs
 
--- src/lib.rt:217:29
 put-sheet-requires : tie.Need-put-sheet-requires
 put-sheet-requires c κs = (search is-accepted, search needs)
 
--- src/lib.rt:217:29
 cast-t19 : tie.Need-cast-t19
 cast-t19 c = search needs
 
--- src/lib.rt:205:1
 same-length : tie.Need-same-length
 same-length c = search needs
 
--- src/lib.rt:205:1
 returns-2 : tie.Need-returns-2
 returns-2 c = (search refused-answer, search refused-bytes)
 
--- src/lib.rt:205:1
 same-length-2 : tie.Need-same-length-2
 same-length-2 c = search needs
 
--- src/lib.rt:205:1
 returns-3 : tie.Need-returns-3
 returns-3 c = (search accepted-answer, search accepted-bytes)
 

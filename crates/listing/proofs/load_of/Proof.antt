@@ -13,63 +13,48 @@ use Rattle.fit.proofs.product.Reads as product-reads
 use Rattle.sheet.proofs.divisor.Reads as divisor-reads
 use Rattle.sheet.proofs.pivot.Reads as pivot-reads
 
--- src/lib.rt:151:9
 in-order-requires : tie.Need-in-order-requires
 in-order-requires c κs = search needs
 
--- src/lib.rt:154:38
 array-share-prefix-list : tie.Need-array-share-prefix-list
 array-share-prefix-list c = search needs
 
--- src/lib.rt:154:38
 slice-aggregate-chain-of : tie.Need-slice-aggregate-chain-of
 slice-aggregate-chain-of c = search ordered-length
 
--- src/lib.rt:154:9
 chain-of-requires : tie.Need-chain-of-requires
 chain-of-requires c κs = search needs
 
--- src/lib.rt:156:29
 enum-told : tie.Need-enum-told
 enum-told c = search needs
 
--- src/lib.rt:157:22
 enum-known-chain : tie.Need-enum-known-chain
 enum-known-chain c = search needs
 
--- src/lib.rt:158:44
 array-share-prefix-list-2 : tie.Need-array-share-prefix-list-2
 array-share-prefix-list-2 c = search needs
 
--- src/lib.rt:158:44
 slice-aggregate-load-of : tie.Need-slice-aggregate-load-of
 slice-aggregate-load-of c = search ordered-length
 
--- src/lib.rt:158:60
 divisor-requires : tie.Need-divisor-requires
 divisor-requires c κs = search needs
 
--- src/lib.rt:158:17
 load-of-requires : tie.Need-load-of-requires
 load-of-requires c κs = search needs
 
--- src/lib.rt:159:42
 pivot-requires : tie.Need-pivot-requires
 pivot-requires c κs = search needs
 
--- src/lib.rt:159:34
 product-requires : tie.Need-product-requires
 product-requires c κs = search needs
 
--- src/lib.rt:159:13
 in-thousandths-requires : tie.Need-in-thousandths-requires
 in-thousandths-requires c κs = (search load-positive, search load-full, search load-range)
 
--- src/lib.rt:147:1
 returns : tie.Need-returns
 returns c = search no-break
 
--- src/lib.rt:147:1
 returns-2 : tie.Need-returns-2
 returns-2 c = search load-found
 

@@ -3,8 +3,8 @@ use Prim.Native.Nat.{_≤_, _-_, _*_}
 use mathlib.Core.Path.{_≡_}
 use lib.ListN.{length}
 use Rattle.sheet.specs.Records.{figuresOf}
-use Rattle.fit.specs.Lists.{numbers}
-use Rattle.listing.specs.Listing.{coreLine, lines}
+use Rattle.fit.specs.Lists.{numbers, joined}
+use Rattle.listing.specs.Listing.{coreLine}
 use Rattle.listing.specs.Steps.{Capped}
 use Rattle.listing.proofs.Lines.{lines-start, lines-turn, lines-end}
 use Rattle.listing.proofs.put_cores.Statement.{statement}
@@ -14,36 +14,29 @@ use Rattle.listing.proofs.put_cores.Lts as lts
 use Rattle.listing.proofs.put_core.Reads as put-core-reads
 
 abbrev Inv-loop : tie.InvT-loop
-Inv-loop out₀ at tasks cores n c next₀ k₀ out next k = (k ≤ c) × (length out ≡ length out₀) × Capped (76 * k) out₀ at (lines (coreLine (figuresOf n c tasks cores)) (numbers 0 k)) out next
+Inv-loop out₀ at tasks cores n c next₀ k₀ out next k = (k ≤ c) × (length out ≡ length out₀) × Capped (76 * k) out₀ at (joined (coreLine (figuresOf n c tasks cores)) (numbers 0 k)) out next
 
 abbrev μ-loop : tie.MeasureT-loop
 μ-loop out₀ at tasks cores n c next₀ k₀ out next k = c - k
 
--- src/lib.rt:181:5
 loop-holds : tie.Need-loop-holds Inv-loop μ-loop
 loop-holds c = search (lines-start, needs)
 
--- src/lib.rt:182:13
 put-core-requires : tie.Need-put-core-requires Inv-loop μ-loop
 put-core-requires c κs = search needs
 
--- src/lib.rt:184:9
 add-k : tie.Need-add-k Inv-loop μ-loop
 add-k c = search needs
 
--- src/lib.rt:181:5
 loop-less : tie.Need-loop-less Inv-loop μ-loop
 loop-less c = search needs
 
--- src/lib.rt:181:5
 loop-again : tie.Need-loop-again Inv-loop μ-loop
 loop-again c = search (lines-turn, needs)
 
--- src/lib.rt:175:1
 same-length : tie.Need-same-length Inv-loop μ-loop
 same-length c = search needs
 
--- src/lib.rt:175:1
 returns : tie.Need-returns Inv-loop μ-loop
 returns c = search (lines-end, needs)
 

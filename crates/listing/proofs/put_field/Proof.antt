@@ -8,23 +8,18 @@ use Rattle.listing.proofs.put_byte.Reads as put-byte-reads
 use Rattle.listing.proofs.put_number.Reads as put-number-reads
 use Rattle.listing.proofs.put_word.Reads as put-word-reads
 
--- src/lib.rt:71:9
 put-word-requires : tie.Need-put-word-requires
 put-word-requires c κs = search needs
 
--- src/lib.rt:72:9
 put-number-requires : tie.Need-put-number-requires
 put-number-requires c κs = search (field-number, needs)
 
--- src/lib.rt:73:5
 put-byte-requires : tie.Need-put-byte-requires
 put-byte-requires c κs = search (field-end, needs)
 
--- src/lib.rt:67:1
 same-length : tie.Need-same-length
 same-length c = search needs
 
--- src/lib.rt:67:1
 returns : tie.Need-returns
 returns c = search (field-put, needs)
 

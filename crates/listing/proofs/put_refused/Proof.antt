@@ -7,27 +7,21 @@ use Rattle.listing.proofs.put_refused.Reads as reads
 use Rattle.listing.proofs.put_refused.Lts as lts
 use Rattle.listing.proofs.put_field.Reads as put-field-reads
 
--- src/lib.rt:82:34
 slice-aggregate-put-field : tie.Need-slice-aggregate-put-field
 slice-aggregate-put-field c = search needs
 
--- src/lib.rt:82:9
 put-field-requires : tie.Need-put-field-requires
 put-field-requires c κs = search needs
 
--- src/lib.rt:83:26
 slice-aggregate-put-field-2 : tie.Need-slice-aggregate-put-field-2
 slice-aggregate-put-field-2 c = search needs
 
--- src/lib.rt:83:5
 put-field-requires-2 : tie.Need-put-field-requires-2
 put-field-requires-2 c κs = search needs
 
--- src/lib.rt:78:1
 same-length : tie.Need-same-length
 same-length c = search needs
 
--- src/lib.rt:78:1
 returns : tie.Need-returns
 unfolding refusedLine
 returns c = capped-join (c .before .before .put-field2 .ensures) (c .before .before .before .before .before .before .before .put-field .ensures)

@@ -9,55 +9,42 @@ use Rattle.listing.proofs.put_header.Reads as put-header-reads
 use Rattle.listing.proofs.put_tasks.Reads as put-tasks-reads
 use Rattle.sheet.proofs.read_word.Reads as read-word-reads
 
--- src/lib.rt:196:17
 sub-tasks : tie.Need-sub-tasks
 sub-tasks c = search (sheet-long, needs)
 
--- src/lib.rt:196:17
 part-tasks-start : tie.Need-part-tasks-start
 part-tasks-start c = search (sheet-long, needs)
 
--- src/lib.rt:196:17
 part-tasks-end : tie.Need-part-tasks-end
 part-tasks-end c = search needs
 
--- src/lib.rt:197:14
 mul-at : tie.Need-mul-at
 mul-at c = search needs
 
--- src/lib.rt:198:17
 sub-cores : tie.Need-sub-cores
 sub-cores c = search (tasks-long, needs)
 
--- src/lib.rt:198:17
 part-cores-start : tie.Need-part-cores-start
 part-cores-start c = search (tasks-long, needs)
 
--- src/lib.rt:198:17
 part-cores-end : tie.Need-part-cores-end
 part-cores-end c = search needs
 
--- src/lib.rt:199:32
 read-word-requires : tie.Need-read-word-requires
 read-word-requires c κs = search needs
 
--- src/lib.rt:199:9
 put-header-requires : tie.Need-put-header-requires
 put-header-requires c κs = search needs
 
--- src/lib.rt:200:9
 put-tasks-requires : tie.Need-put-tasks-requires
 put-tasks-requires c κs = (search sheet-fitting, search (tasks-room, needs))
 
--- src/lib.rt:201:5
 put-cores-requires : tie.Need-put-cores-requires
 put-cores-requires c κs = (search sheet-fitting, search tasks-few, cores-room _ _ _ (c .before .before .before .before .before .before .before .before .before .before .before .before .before .before .pre .0) _ _ _ _ (c .before .before .before .before .before .before .before .before .before .before .before .before .before .before .pre .1) (c .before .before .before .before .before .before .before .put-header .kept .0) (c .before .before .before .before .before .before .before .put-header .ensures) _ _ _ (c .before .before .before .put-tasks .kept .0) (c .before .before .before .put-tasks .ensures))
 
--- src/lib.rt:192:1
 same-length : tie.Need-same-length
 same-length c = search needs
 
--- src/lib.rt:192:1
 returns : tie.Need-returns
 returns c = let v = c .before .before .before .before .before .before .before .before .before .before .before .before .before .before .before .before .before .pre .0 in
     sheet-put _ _ _ v _ _ _ _ _ _ _ _ _ (parts _ _ _ v) (c .before .before .before .before .before .before .before .before .before .before .before .read-word .ensures) (c .before .before .put-cores .ensures) (c .before .before .before .before .before .before .put-tasks .ensures) (c .before .before .before .before .before .before .before .before .before .before .put-header .ensures)

@@ -16,99 +16,75 @@ use Rattle.sheet.proofs.factor.Reads as factor-reads
 use Rattle.sheet.proofs.period.Reads as period-reads
 use Rattle.sheet.proofs.pivot.Reads as pivot-reads
 
--- src/lib.rt:115:9
 core-requires : tie.Need-core-requires
 core-requires c κs = search needs
 
--- src/lib.rt:116:13
 period-requires : tie.Need-period-requires
 period-requires c κs = search needs
 
--- src/lib.rt:116:13
 cast-p : tie.Need-cast-p
 cast-p c = search needs
 
--- src/lib.rt:117:13
 budget-requires : tie.Need-budget-requires
 budget-requires c κs = search needs
 
--- src/lib.rt:117:13
 cast-e : tie.Need-cast-e
 cast-e c = search needs
 
--- src/lib.rt:118:9
 factor-requires : tie.Need-factor-requires
 factor-requires c κs = search needs
 
--- src/lib.rt:119:23
 pivot-requires : tie.Need-pivot-requires
 pivot-requires c κs = search needs
 
--- src/lib.rt:119:50
 divisor-requires : tie.Need-divisor-requires
 divisor-requires c κs = search needs
 
--- src/lib.rt:119:9
 within-of-requires : tie.Need-within-of-requires
 within-of-requires c κs = (search within-divisor, search within-small)
 
--- src/lib.rt:120:35
 slice-aggregate-put-field : tie.Need-slice-aggregate-put-field
 slice-aggregate-put-field c = search needs
 
--- src/lib.rt:120:9
 put-field-requires : tie.Need-put-field-requires
 put-field-requires c κs = search needs
 
--- src/lib.rt:121:37
 slice-aggregate-put-field-2 : tie.Need-slice-aggregate-put-field-2
 slice-aggregate-put-field-2 c = search needs
 
--- src/lib.rt:121:47
 cast-put-field : tie.Need-cast-put-field
 cast-put-field c = search needs
 
--- src/lib.rt:121:9
 put-field-requires-2 : tie.Need-put-field-requires-2
 put-field-requires-2 c κs = search needs
 
--- src/lib.rt:122:37
 slice-aggregate-put-field-3 : tie.Need-slice-aggregate-put-field-3
 slice-aggregate-put-field-3 c = search needs
 
--- src/lib.rt:122:9
 put-field-requires-3 : tie.Need-put-field-requires-3
 put-field-requires-3 c κs = search needs
 
--- src/lib.rt:123:37
 slice-aggregate-put-field-4 : tie.Need-slice-aggregate-put-field-4
 slice-aggregate-put-field-4 c = search needs
 
--- src/lib.rt:123:9
 put-field-requires-4 : tie.Need-put-field-requires-4
 put-field-requires-4 c κs = omega (arith, c .before .before .before .before .before .before .before .before .before .before .before .before .before .before .before .before .before .before .before .before .before .before .before .before .before .before .before .pre)
 
--- src/lib.rt:124:37
 slice-aggregate-put-field-5 : tie.Need-slice-aggregate-put-field-5
 slice-aggregate-put-field-5 c = search needs
 
--- src/lib.rt:124:9
 put-field-requires-5 : tie.Need-put-field-requires-5
 put-field-requires-5 c κs = omega (arith, c .before .before .before .before .before .before .before .before .before .before .before .before .before .before .before .before .before .before .before .before .before .before .before .before .before .before .before .before .before .before .before .before .pre)
 
--- src/lib.rt:125:26
 slice-aggregate-put-field-6 : tie.Need-slice-aggregate-put-field-6
 slice-aggregate-put-field-6 c = search needs
 
--- src/lib.rt:125:5
 put-field-requires-6 : tie.Need-put-field-requires-6
 put-field-requires-6 c κs = omega (arith, c .before .before .before .before .before .before .before .before .before .before .before .before .before .before .before .before .before .before .before .before .before .before .before .before .before .before .before .before .before .before .before .before .before .before .before .before .before .pre)
 
--- src/lib.rt:111:1
 same-length : tie.Need-same-length
 same-length c = search needs
 
--- src/lib.rt:111:1
 returns : tie.Need-returns
 returns c = task-line _ _ _ _ _ _ _ _ _ _ _ _ _ _ (capped-join (c .before .before .put-field6 .ensures) (capped-join (c .before .before .before .before .before .before .before .put-field5 .ensures) (capped-join (c .before .before .before .before .before .before .before .before .before .before .before .before .put-field4 .ensures) (capped-join (c .before .before .before .before .before .before .before .before .before .before .before .before .before .before .before .before .before .put-field3 .ensures) (capped-join (c .before .before .before .before .before .before .before .before .before .before .before .before .before .before .before .before .before .before .before .before .before .before .put-field2 .ensures) (c .before .before .before .before .before .before .before .before .before .before .before .before .before .before .before .before .before .before .before .before .before .before .before .before .before .before .before .put-field .ensures)))))) (c .before .before .before .before .before .before .before .before .before .before .before .before .before .before .before .before .before .before .before .before .before .before .before .before .before .before .before .before .before .before .before .before .before .before .before .before .core .ensures) (c .before .before .before .before .before .before .before .before .before .before .before .before .before .before .before .before .before .before .before .before .before .before .before .before .before .before .before .before .before .before .before .before .before .before .before .period .ensures) (c .before .before .before .before .before .before .before .before .before .before .before .before .before .before .before .before .before .before .before .before .before .before .before .before .before .before .before .before .before .before .before .before .before .before .budget .ensures) (c .before .before .before .before .before .before .before .before .before .before .before .before .before .before .before .before .before .before .before .before .before .before .before .before .before .before .before .before .before .before .before .before .before .factor .ensures) (c .before .before .before .before .before .before .before .before .before .before .before .before .before .before .before .before .before .before .before .before .before .before .before .before .before .before .before .before .before .before .before .before .pivot .ensures) (c .before .before .before .before .before .before .before .before .before .before .before .before .before .before .before .before .before .before .before .before .before .before .before .before .before .before .before .before .before .before .before .divisor .ensures) (c .before .before .before .before .before .before .before .before .before .before .before .before .before .before .before .before .before .before .before .before .before .before .before .before .before .before .before .before .before .before .within-of .ensures)
 

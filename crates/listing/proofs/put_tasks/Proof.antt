@@ -3,8 +3,8 @@ use Prim.Native.Nat.{_≤_, _-_, _*_}
 use mathlib.Core.Path.{_≡_}
 use lib.ListN.{length}
 use Rattle.sheet.specs.Records.{figuresOf}
-use Rattle.fit.specs.Lists.{numbers}
-use Rattle.listing.specs.Listing.{taskLine, lines}
+use Rattle.fit.specs.Lists.{numbers, joined}
+use Rattle.listing.specs.Listing.{taskLine}
 use Rattle.listing.specs.Steps.{Capped}
 use Rattle.listing.proofs.Lines.{lines-start, lines-turn, lines-end}
 use Rattle.listing.proofs.put_tasks.Statement.{statement}
@@ -14,36 +14,29 @@ use Rattle.listing.proofs.put_tasks.Lts as lts
 use Rattle.listing.proofs.put_task.Reads as put-task-reads
 
 abbrev Inv-loop : tie.InvT-loop
-Inv-loop out₀ at tasks cores n c next₀ i₀ out next i = (i ≤ n) × (length out ≡ length out₀) × Capped (114 * i) out₀ at (lines (taskLine (figuresOf n c tasks cores)) (numbers 0 i)) out next
+Inv-loop out₀ at tasks cores n c next₀ i₀ out next i = (i ≤ n) × (length out ≡ length out₀) × Capped (114 * i) out₀ at (joined (taskLine (figuresOf n c tasks cores)) (numbers 0 i)) out next
 
 abbrev μ-loop : tie.MeasureT-loop
 μ-loop out₀ at tasks cores n c next₀ i₀ out next i = n - i
 
--- src/lib.rt:130:5
 loop-holds : tie.Need-loop-holds Inv-loop μ-loop
 loop-holds c = search (lines-start, needs)
 
--- src/lib.rt:131:13
 put-task-requires : tie.Need-put-task-requires Inv-loop μ-loop
 put-task-requires c κs = search needs
 
--- src/lib.rt:133:9
 add-i : tie.Need-add-i Inv-loop μ-loop
 add-i c = search needs
 
--- src/lib.rt:130:5
 loop-less : tie.Need-loop-less Inv-loop μ-loop
 loop-less c = search needs
 
--- src/lib.rt:130:5
 loop-again : tie.Need-loop-again Inv-loop μ-loop
 loop-again c = search (lines-turn, needs)
 
--- src/lib.rt:124:1
 same-length : tie.Need-same-length Inv-loop μ-loop
 same-length c = search needs
 
--- src/lib.rt:124:1
 returns : tie.Need-returns Inv-loop μ-loop
 returns c = search (lines-end, needs)
 

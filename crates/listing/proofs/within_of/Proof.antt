@@ -6,19 +6,15 @@ use Rattle.listing.proofs.within_of.Reads as reads
 use Rattle.listing.proofs.within_of.Lts as lts
 use Rattle.fit.proofs.product.Reads as product-reads
 
--- src/lib.rt:106:6
 product-requires : tie.Need-product-requires
 product-requires c κs = search needs
 
--- src/lib.rt:106:6
 div-result : tie.Need-div-result
 div-result c = search needs
 
--- src/lib.rt:106:5
 cast-result : tie.Need-cast-result
 cast-result c = search within-cast
 
--- src/lib.rt:102:1
 returns : tie.Need-returns
 returns c = search within-found
 

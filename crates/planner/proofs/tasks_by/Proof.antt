@@ -6,11 +6,9 @@ use Rattle.planner.proofs.tasks_by.Reads as reads
 use Rattle.planner.proofs.tasks_by.Lts as lts
 use Rattle.jobs.proofs.in_order.Reads as in-order-reads
 
--- src/lib.rt:254:5
 in-order-requires : tie.Need-in-order-requires
 in-order-requires c κs = search needs
 
--- src/lib.rt:250:1
 returns : tie.Need-returns
 returns c = search (all-listed, needs)
 

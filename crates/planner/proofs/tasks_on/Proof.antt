@@ -1,7 +1,8 @@
 use borrow.Author.Needs.{needs}
 use Prim.Native.Nat.{_≤_, _-_}
 use lib.ListN.{length}
-use Rattle.planner.specs.Steps.{on}
+use Rattle.fit.specs.Lists.{at}
+use Rattle.fit.specs.Priority.{isOn}
 use Rattle.planner.proofs.Gathering.{Picked, pick-start, pick-turn, pick-end}
 use Rattle.planner.proofs.tasks_on.Statement.{statement}
 use Rattle.planner.proofs.tasks_on.Tie as tie
@@ -11,7 +12,7 @@ use Rattle.planner.proofs.core_of.Reads as core-of-reads
 use Rattle.planner.proofs.push.Reads as push-reads
 
 abbrev Inv-loop : tie.InvT-loop
-Inv-loop order cores k list₀ count₀ j₀ list count j = (j ≤ length order) × Picked (on cores k) order count j list
+Inv-loop order cores k list₀ count₀ j₀ list count j = (j ≤ length order) × Picked (isOn (at cores) k) order count j list
 
 abbrev μ-loop : tie.MeasureT-loop
 μ-loop order cores k list₀ count₀ j₀ list count j = length order - j

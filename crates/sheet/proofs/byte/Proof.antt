@@ -5,15 +5,12 @@ use Rattle.sheet.proofs.byte.Tie as tie
 use Rattle.sheet.proofs.byte.Reads as reads
 use Rattle.sheet.proofs.byte.Lts as lts
 
--- src/lib.rt:70:16
 shared-slice-read-result : tie.Need-shared-slice-read-result
 shared-slice-read-result c = search needs
 
--- src/lib.rt:70:9
 returns : tie.Need-returns
 returns c = search needs
 
--- src/lib.rt:66:1
 returns-2 : tie.Need-returns-2
 returns-2 c = search past
 

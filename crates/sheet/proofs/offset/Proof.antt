@@ -7,14 +7,12 @@ use Rattle.sheet.proofs.offset.Tie as tie
 use Rattle.sheet.proofs.offset.Reads as reads
 use Rattle.sheet.proofs.offset.Lts as lts
 
--- src/lib.rt:158:5
 mul-result : tie.Need-mul-result
 mul-result c = let a : c .args .size ≤ 255 = omega arith in
     let b : c .args .i ≤ 255 = omega arith in
     let h : c .args .size * c .args .i ≤ 255 * 255 = mul-le-mul a b in
     omega arith
 
--- src/lib.rt:155:1
 returns : tie.Need-returns
 returns c =
     let a : c .args .size ≤ 255 = omega arith in

@@ -5,7 +5,6 @@ use Rattle.sheet.proofs.out_of.Tie as tie
 use Rattle.sheet.proofs.out_of.Reads as reads
 use Rattle.sheet.proofs.out_of.Lts as lts
 
--- src/lib.rt:79:1
 returns : tie.Need-returns
 unfolding outOf
 returns c = refl

@@ -8,75 +8,57 @@ use Rattle.sheet.proofs.join16.Reads as join16-reads
 use Rattle.sheet.proofs.join8.Reads as join8-reads
 use Rattle.sheet.proofs.read_word.Reads as read-word-reads
 
--- src/lib.rt:125:17
 sub-if2 : tie.Need-sub-if2
 sub-if2 c = search needs
 
--- src/lib.rt:126:29
 shared-slice-read-join8 : tie.Need-shared-slice-read-join8
 shared-slice-read-join8 c = search needs
 
--- src/lib.rt:126:44
 add-join8 : tie.Need-add-join8
 add-join8 c = search needs
 
--- src/lib.rt:126:39
 shared-slice-read-join8-2 : tie.Need-shared-slice-read-join8-2
 shared-slice-read-join8-2 c = search needs
 
--- src/lib.rt:126:17
 join8-requires : tie.Need-join8-requires
 join8-requires c κs = search needs
 
--- src/lib.rt:127:43
 add-join8-2 : tie.Need-add-join8-2
 add-join8-2 c = search needs
 
--- src/lib.rt:127:38
 shared-slice-read-join8-3 : tie.Need-shared-slice-read-join8-3
 shared-slice-read-join8-3 c = search needs
 
--- src/lib.rt:127:57
 add-join8-3 : tie.Need-add-join8-3
 add-join8-3 c = search needs
 
--- src/lib.rt:127:52
 shared-slice-read-join8-4 : tie.Need-shared-slice-read-join8-4
 shared-slice-read-join8-4 c = search needs
 
--- src/lib.rt:127:32
 join8-requires-2 : tie.Need-join8-requires-2
 join8-requires-2 c κs = search needs
 
--- src/lib.rt:127:13
 join16-requires : tie.Need-join16-requires
 join16-requires c κs = search needs
 
--- src/lib.rt:127:13
 returns : tie.Need-returns
 returns c = search long-bytes
 
--- src/lib.rt:129:23
 read-word-requires : tie.Need-read-word-requires
 read-word-requires c κs = search needs
 
--- src/lib.rt:129:60
 add-read-word : tie.Need-add-read-word
 add-read-word c = search needs
 
--- src/lib.rt:129:44
 read-word-requires-2 : tie.Need-read-word-requires-2
 read-word-requires-2 c κs = search needs
 
--- src/lib.rt:129:9
 join16-requires-2 : tie.Need-join16-requires-2
 join16-requires-2 c κs = search needs
 
--- src/lib.rt:129:9
 returns-2 : tie.Need-returns-2
 returns-2 c = search long-words
 
--- src/lib.rt:121:1
 returns-3 : tie.Need-returns-3
 returns-3 c = search past-long
 

@@ -7,44 +7,34 @@ use Rattle.sheet.proofs.read_word.Reads as reads
 use Rattle.sheet.proofs.read_word.Lts as lts
 use Rattle.sheet.proofs.join8.Reads as join8-reads
 
--- src/lib.rt:112:17
 sub-if2 : tie.Need-sub-if2
 sub-if2 c = search needs
 
--- src/lib.rt:113:26
 shared-slice-read-join8 : tie.Need-shared-slice-read-join8
 shared-slice-read-join8 c = search needs
 
--- src/lib.rt:113:41
 add-join8 : tie.Need-add-join8
 add-join8 c = search needs
 
--- src/lib.rt:113:36
 shared-slice-read-join8-2 : tie.Need-shared-slice-read-join8-2
 shared-slice-read-join8-2 c = search needs
 
--- src/lib.rt:113:13
 join8-requires : tie.Need-join8-requires
 join8-requires c κs = search needs
 
--- src/lib.rt:113:13
 returns : tie.Need-returns
 unfolding word
 returns c = cc
 
--- src/lib.rt:115:22
 shared-slice-read-join8-3 : tie.Need-shared-slice-read-join8-3
 shared-slice-read-join8-3 c = search needs
 
--- src/lib.rt:115:9
 join8-requires-2 : tie.Need-join8-requires-2
 join8-requires-2 c κs = search needs
 
--- src/lib.rt:115:9
 returns-2 : tie.Need-returns-2
 returns-2 c = search (word-last, needs)
 
--- src/lib.rt:108:1
 returns-3 : tie.Need-returns-3
 returns-3 c = search past-word
 

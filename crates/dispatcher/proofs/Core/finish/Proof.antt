@@ -10,55 +10,42 @@ use Rattle.dispatcher.proofs.refuse.Reads as refuse-reads
 use Rattle.dispatcher.proofs.spot_of.Reads as spot-of-reads
 use Rattle.dispatcher.proofs.with_job.Reads as with-job-reads
 
--- src/lib.rt:357:13
 spot-of-requires : tie.Need-spot-of-requires
 spot-of-requires c κs = search needs
 
--- src/lib.rt:359:27
 enum-known-spot : tie.Need-enum-known-spot
 enum-known-spot c = search needs
 
--- src/lib.rt:359:36
 refuse-requires : tie.Need-refuse-requires
 refuse-requires c κs = search needs
 
--- src/lib.rt:360:22
 enum-known-spot-2 : tie.Need-enum-known-spot-2
 enum-known-spot-2 c = search needs
 
--- src/lib.rt:361:25
 mul-t : tie.Need-mul-t
 mul-t c = search (spot-fits, array-length)
 
--- src/lib.rt:361:25
 element-copy-out-t : tie.Need-element-copy-out-t
 element-copy-out-t c = search (spot-room, array-length, needs)
 
--- src/lib.rt:363:57
 cast-refuse : tie.Need-cast-refuse
 cast-refuse c = search needs
 
--- src/lib.rt:363:21
 refuse-requires-2 : tie.Need-refuse-requires-2
 refuse-requires-2 c κs = search needs
 
--- src/lib.rt:363:21
 returns : tie.Need-returns
 returns c = search (finish-quiet, array-length, needs)
 
--- src/lib.rt:365:34
 with-job-requires : tie.Need-with-job-requires
 with-job-requires c κs = search needs
 
--- src/lib.rt:365:17
 accept-requires : tie.Need-accept-requires
 accept-requires c κs = search (spot-room, array-length, needs)
 
--- src/lib.rt:354:5
 returns-2 : tie.Need-returns-2
 returns-2 c = search (finish-absent, finish-ends, array-length, needs)
 
--- src/lib.rt:354:5
 returns-3 : tie.Need-returns-3
 returns-3 c = search (finish-absent, finish-ends, array-length, needs)
 

@@ -12,55 +12,42 @@ use Rattle.dispatcher.proofs.refuse.Reads as refuse-reads
 use Rattle.dispatcher.proofs.with_job.Reads as with-job-reads
 use Rattle.dispatcher.proofs.with_task.Reads as with-task-reads
 
--- src/lib.rt:374:12
 is-foreign-requires : tie.Need-is-foreign-requires
 is-foreign-requires c κs = search needs
 
--- src/lib.rt:375:13
 refuse-requires : tie.Need-refuse-requires
 refuse-requires c κs = search needs
 
--- src/lib.rt:375:13
 returns : tie.Need-returns
 returns c = search (op-foreign, needs)
 
--- src/lib.rt:377:13
 first-pending-requires : tie.Need-first-pending-requires
 first-pending-requires c κs = search (count-max, needs)
 
--- src/lib.rt:379:17
 all-aged-requires : tie.Need-all-aged-requires
 all-aged-requires c κs = search (count-max, needs)
 
--- src/lib.rt:380:13
 returns-2 : tie.Need-returns-2
 returns-2 c = search (tick-idles, array-length, needs)
 
--- src/lib.rt:385:17
 mul-t : tie.Need-mul-t
 mul-t c = search offset-fits
 
--- src/lib.rt:385:17
 element-copy-out-t : tie.Need-element-copy-out-t
 element-copy-out-t c = search (place-room, needs)
 
--- src/lib.rt:386:72
 sub-with-job : tie.Need-sub-with-job
 sub-with-job c = search (pending-left, array-length, needs)
 
--- src/lib.rt:386:53
 with-job-requires : tie.Need-with-job-requires
 with-job-requires c κs = search needs
 
--- src/lib.rt:386:30
 with-task-requires : tie.Need-with-task-requires
 with-task-requires c κs = search (place-room, needs)
 
--- src/lib.rt:386:13
 all-aged-requires-2 : tie.Need-all-aged-requires-2
 all-aged-requires-2 c κs = search (changed-max, needs)
 
--- src/lib.rt:371:5
 returns-3 : tie.Need-returns-3
 returns-3 c = search (tick-serves, array-length, needs)
 
