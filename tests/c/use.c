@@ -6,10 +6,50 @@
 #include <stdio.h>
 #include <string.h>
 
-_Static_assert(sizeof(homvaits_task) == 10 && offsetof(homvaits_task, period) == 0 && offsetof(homvaits_task, budget) == 2 &&
-                   offsetof(homvaits_task, age) == 4 && offsetof(homvaits_task, left) == 6 && offsetof(homvaits_task, number) == 8,
-               "a task");
-_Static_assert(sizeof(homvaits_core) == 648 && offsetof(homvaits_core, tasks) == 8, "a core");
+/* The layout, as in rust/homvaits/src/layout.rs and tests/binding/src/layout.rs: sizes, and of each field its offset and width. */
+#define SIZE(type, size) _Static_assert(sizeof(homvaits_##type) == (size), #type)
+#define FIELD(type, field, at, width) \
+    _Static_assert(offsetof(homvaits_##type, field) == (at) && sizeof(((homvaits_##type *)0)->field) == (width), #type "." #field)
+
+SIZE(task, 10);
+FIELD(task, period, 0, 2);
+FIELD(task, budget, 2, 2);
+FIELD(task, age, 4, 2);
+FIELD(task, left, 6, 2);
+FIELD(task, number, 8, 1);
+
+SIZE(core, 648);
+FIELD(core, count, 0, 8);
+FIELD(core, tasks, 8, 640);
+
+SIZE(checked, 6);
+FIELD(checked, refusal, 0, 1);
+FIELD(checked, place, 2, 2);
+FIELD(checked, tasks, 4, 1);
+FIELD(checked, cores, 5, 1);
+
+SIZE(planned, 8);
+FIELD(planned, refusal, 0, 1);
+FIELD(planned, place, 2, 2);
+FIELD(planned, tasks, 4, 1);
+FIELD(planned, cores, 5, 1);
+FIELD(planned, length, 6, 2);
+
+SIZE(step, 656);
+FIELD(step, refusal, 0, 1);
+FIELD(step, place, 2, 2);
+FIELD(step, core, 8, 648);
+
+SIZE(ticked, 656);
+FIELD(ticked, refusal, 0, 1);
+FIELD(ticked, place, 2, 2);
+FIELD(ticked, task, 4, 1);
+FIELD(ticked, core, 8, 648);
+
+SIZE(listed, 6);
+FIELD(listed, refusal, 0, 1);
+FIELD(listed, place, 2, 2);
+FIELD(listed, length, 4, 2);
 
 static void put(uint8_t *at, unsigned x) { at[0] = (uint8_t)(x % 256); at[1] = (uint8_t)(x / 256); }
 

@@ -2,6 +2,8 @@
 //! feature leaves a part out that the library does not have yet. The structs
 //! are the reference's, which have the fields of the interface in its layout.
 
+mod layout;
+
 use reference::CheckAnswer;
 #[cfg(feature = "list")]
 use reference::ListAnswer;
