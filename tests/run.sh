@@ -6,8 +6,8 @@ export HOMVAITS_LIB="${HOMVAITS_LIB:-$(realpath ../target/staticlib/libcapi.a)}"
 export CARGO_TARGET_DIR="${CARGO_TARGET_DIR:-$(realpath ..)/target/cargo}"
 
 cargo test -q --release --offline
-cargo run -q --release --offline -p compare --features plan,dispatch,list -- "${1:-1}" "${2:-20}"
-cargo test -q --release --offline -p compare --features dispatch
+cargo run -q --release --offline -p compare -- "${1:-1}" "${2:-20}"
+cargo test -q --release --offline -p compare
 (cd ../bench && cargo test -q --release --offline)
 (cd ../rust/homvaits && cargo test -q --release --offline)
 cc -std=c11 -O1 -Wall -Wextra -Werror -I../include c/use.c "$HOMVAITS_LIB" -o "$CARGO_TARGET_DIR/use-c"

@@ -7,7 +7,7 @@ target=${CARGO_TARGET_DIR:-$PWD/target}
 build() { # folder, features of fake
     export CARGO_TARGET_DIR="$target/$1" HOMVAITS_LIB="$target/$1/release/libfake.a"
     cargo build -q --release --offline -p fake --features "$2"
-    cargo build -q --release --offline -p compare --features plan,dispatch,list
+    cargo build -q --release --offline -p compare
 }
 build right ""
 "$target/right/release/compare" 1 20

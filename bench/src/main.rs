@@ -14,9 +14,7 @@ fn main() {
     });
     let mut rng = Rng::new(seed);
     check(&mut rng);
-    #[cfg(feature = "plan")]
     plan(&mut rng);
-    #[cfg(feature = "dispatch")]
     tick();
 }
 
@@ -48,7 +46,6 @@ fn check(rng: &mut Rng) {
     );
 }
 
-#[cfg(feature = "plan")]
 fn plan(rng: &mut Rng) {
     let lists = workload::full_lists(rng, 50);
     let mut out = [0; 712];
@@ -69,7 +66,6 @@ fn plan(rng: &mut Rng) {
     compare(lists.len(), || run(plain::plan), || run(binding::plan));
 }
 
-#[cfg(feature = "dispatch")]
 fn tick() {
     const TICKS: usize = 50_000;
     let first = workload::last_pending();
