@@ -4,7 +4,6 @@
 #include <assert.h>
 #include <stddef.h>
 #include <stdio.h>
-#include <string.h>
 
 /* The layout, as in rust/homvaits/src/layout.rs and tests/binding/src/layout.rs: sizes, and of each field its offset and width. */
 #define SIZE(type, size) _Static_assert(sizeof(homvaits_##type) == (size), #type)
@@ -61,6 +60,16 @@ static size_t jobs_of(uint8_t *list, const unsigned (*jobs)[2], size_t n) {
     return 4 * n;
 }
 
+static int same_task(const homvaits_task *a, const homvaits_task *b) {
+    return a->period == b->period && a->budget == b->budget && a->age == b->age && a->left == b->left && a->number == b->number;
+}
+
+static int same_core(const homvaits_core *a, const homvaits_core *b) {
+    for (int i = 0; i < 64; i++)
+        if (!same_task(&a->tasks[i], &b->tasks[i])) return 0;
+    return a->count == b->count;
+}
+
 int main(void) {
     const unsigned jobs[2][2] = {{5, 1}, {9, 7}};
     uint8_t list[8], sheet[HOMVAITS_SHEET_MAX], text[HOMVAITS_TEXT_MAX];
@@ -91,13 +100,26 @@ int main(void) {
             assert(step.refusal == 0);
             core = step.core;
         }
-        homvaits_ticked ticked = homvaits_tick(core);
-        assert(ticked.refusal == 0 && ticked.task == expected[i]);
-        core = ticked.core;
+        homvaits_ticked next = homvaits_tick(core);
+        assert(next.refusal == 0 && next.task == expected[i]);
+        core = next.core;
     }
     homvaits_ticked idle = homvaits_tick(core);
     assert(idle.refusal == 0 && idle.task == HOMVAITS_IDLE);
     assert(homvaits_finish(idle.core, 1).refusal == 20);
+
+    /* A job that ends before its budget is used: no ticks are left, the age stands. */
+    core = homvaits_start(sheet, planned.length, 0).core;
+    homvaits_ticked ticked = homvaits_tick(homvaits_release(core, 1).core);
+    assert(ticked.refusal == 0 && ticked.task == 1 && ticked.core.tasks[1].left == 6);
+    step = homvaits_finish(ticked.core, 1);
+    assert(step.refusal == 0 && step.place == 0);
+    ticked.core.tasks[1].left = 0;
+    assert(ticked.core.tasks[1].age == 1 && same_core(&step.core, &ticked.core));
+    core = step.core;
+    step = homvaits_finish(core, 1);
+    assert(step.refusal == 20 && step.place == 1 && same_core(&step.core, &core));
+    assert(homvaits_tick(core).task == HOMVAITS_IDLE);
 
     const unsigned bench[2][2] = {{5, 2}, {7, 4}};
     len = jobs_of(list, bench, 2);
@@ -108,7 +130,7 @@ int main(void) {
         core = homvaits_tick(core).core;
     }
     step = homvaits_release(core, 1);
-    assert(step.refusal == 19 && step.place == 1 && memcmp(step.core.tasks, core.tasks, sizeof core.tasks) == 0);
+    assert(step.refusal == 19 && step.place == 1 && same_core(&step.core, &core));
 
     core.count = 65;
     assert(homvaits_tick(core).refusal == 21);
