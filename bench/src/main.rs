@@ -24,6 +24,7 @@ fn check(rng: &mut Rng) {
     for sheet in &sheets {
         let answer = plain::check(sheet);
         assert_eq!(answer, binding::check(sheet), "they differ on a sheet");
+        assert_eq!(answer, reference::check(sheet), "they differ on a sheet");
         accepted += (answer.refusal == 0) as usize;
     }
     let bytes: usize = sheets.iter().map(Vec::len).sum();
