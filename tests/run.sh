@@ -6,6 +6,7 @@ export HOMVAITS_LIB="${HOMVAITS_LIB:-$(realpath ../target/staticlib/libcapi.a)}"
 export CARGO_TARGET_DIR="${CARGO_TARGET_DIR:-$(realpath ..)/target/cargo}"
 
 cargo test -q --release --offline
+./try-harness.sh
 cargo run -q --release --offline -p compare -- "${1:-1}" "${2:-20}"
 cargo test -q --release --offline -p compare
 (cd ../bench && cargo test -q --release --offline)
