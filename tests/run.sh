@@ -1,14 +1,16 @@
 #!/usr/bin/env bash
-# The outside tests against the proved library (`rt staticlib capi` makes it). Arguments: a seed and a number of rounds.
+# The outside tests against the proved library (`rt staticlib capi` makes it) and the programs. Arguments: a seed and a number of rounds.
 set -euo pipefail
 cd "$(dirname "$0")"
 export HOMVAITS_LIB="${HOMVAITS_LIB:-$(realpath ../target/staticlib/libcapi.a)}"
 export CARGO_TARGET_DIR="${CARGO_TARGET_DIR:-$(realpath ..)/target/cargo}"
 
 cargo test -q --release --offline
-cargo run -q --release --offline -p compare --features plan,dispatch,list -- "${1:-1}" "${2:-20}"
-cargo test -q --release --offline -p compare --features dispatch
+./try-harness.sh
+cargo run -q --release --offline -p compare -- "${1:-1}" "${2:-20}"
+cargo test -q --release --offline -p compare
 (cd ../bench && cargo test -q --release --offline)
 (cd ../rust/homvaits && cargo test -q --release --offline)
 cc -std=c11 -O1 -Wall -Wextra -Werror -I../include c/use.c "$HOMVAITS_LIB" -o "$CARGO_TARGET_DIR/use-c"
 "$CARGO_TARGET_DIR/use-c"
+./programs.sh

@@ -7,15 +7,27 @@ target=${CARGO_TARGET_DIR:-$PWD/target}
 build() { # folder, features of fake
     export CARGO_TARGET_DIR="$target/$1" HOMVAITS_LIB="$target/$1/release/libfake.a"
     cargo build -q --release --offline -p fake --features "$2"
-    cargo build -q --release --offline -p compare --features plan,dispatch,list
+    cargo build -q --release --offline -p compare
 }
 build right ""
 "$target/right/release/compare" 1 20
+if "$target/right/release/compare" 1 0 > /dev/null; then
+    echo "nothing compared, and not noticed"
+    exit 1
+fi
 build wrong wrong
-for mistake in $(seq 17); do
-    if FAKE_WRONG=$mistake "$target/wrong/release/compare" 1 1 > /dev/null; then
-        echo "mistake $mistake was not noticed"
+mistake=0
+# the call in which each mistake of fake is to be noticed
+for call in check check plan plan plan plan start start start_list release release finish tick tick tick list list; do
+    mistake=$((mistake + 1))
+    answer=$(FAKE_WRONG=$mistake "$target/wrong/release/compare" 1 1) || true
+    case $answer in
+    "compare: difference in $call
+"*) ;;
+    *)
+        echo "mistake $mistake was not noticed in $call"
         exit 1
-    fi
+        ;;
+    esac
 done
-echo "harness: 17 mistakes noticed"
+echo "harness: $mistake mistakes noticed"

@@ -14,9 +14,7 @@ fn main() {
     });
     let mut rng = Rng::new(seed);
     check(&mut rng);
-    #[cfg(feature = "plan")]
     plan(&mut rng);
-    #[cfg(feature = "dispatch")]
     tick();
 }
 
@@ -26,6 +24,7 @@ fn check(rng: &mut Rng) {
     for sheet in &sheets {
         let answer = plain::check(sheet);
         assert_eq!(answer, binding::check(sheet), "they differ on a sheet");
+        assert_eq!(answer, reference::check(sheet), "they differ on a sheet");
         accepted += (answer.refusal == 0) as usize;
     }
     let bytes: usize = sheets.iter().map(Vec::len).sum();
@@ -48,7 +47,6 @@ fn check(rng: &mut Rng) {
     );
 }
 
-#[cfg(feature = "plan")]
 fn plan(rng: &mut Rng) {
     let lists = workload::full_lists(rng, 50);
     let mut out = [0; 712];
@@ -69,7 +67,6 @@ fn plan(rng: &mut Rng) {
     compare(lists.len(), || run(plain::plan), || run(binding::plan));
 }
 
-#[cfg(feature = "dispatch")]
 fn tick() {
     const TICKS: usize = 50_000;
     let first = workload::last_pending();

@@ -1,5 +1,7 @@
 //! Safe Rust over the proved library. Every call takes any input and always returns; a refusal has document 01's number and place.
 
+mod layout;
+
 use std::fmt;
 
 /// The least output of [`plan`]: the longest sheet.

@@ -1,5 +1,5 @@
 //! The wrapper on cards of document 01.
-use homvaits::{check, job_list, list, plan, Core, Refusal};
+use homvaits::{check, job_list, list, plan, Core, Refusal, Task};
 
 const LISTING: &str = "TSH 1 tasks 2 cores 1\n\
 task 0 core 0 period 5 budget 1 factor 1 within 4\n\
@@ -39,6 +39,32 @@ fn a_plan_is_checked_listed_and_run() {
     assert_eq!(served[..9], expected);
     assert_eq!(served[9], None);
     assert!(core.tasks().iter().all(|t| t.left == 0));
+}
+
+#[test]
+fn a_job_ends_before_its_budget_is_used() {
+    let sheet = plan(&job_list(&[(5, 1), (9, 7)]), 1, 0).unwrap();
+    let core = Core::start(&sheet, 0).unwrap().release(1).unwrap();
+    let (task, core) = core.tick().unwrap();
+    assert_eq!(task, Some(1));
+    let before = core.tasks();
+    assert_eq!((before[1].age, before[1].left), (1, 6));
+    let core = core.finish(1).unwrap();
+    // the age stands, and so does the other task
+    let expected = [
+        before[0],
+        Task {
+            left: 0,
+            ..before[1]
+        },
+    ];
+    assert_eq!(core.tasks(), expected);
+    let quiet = Refusal {
+        number: 20,
+        place: 1,
+    };
+    assert_eq!(core.finish(1), Err(quiet));
+    assert_eq!(core.tick().unwrap().0, None);
 }
 
 #[test]

@@ -1,21 +1,13 @@
-//! The C interface of the verified library, declared and wrapped safely. A
-//! feature leaves a part out that the library does not have yet. The structs
-//! are the reference's, which have the fields of the interface in its layout.
+//! The C interface of the verified library, declared and wrapped safely. The
+//! structs are the reference's, which have the fields of the interface in its
+//! layout.
 
-use reference::CheckAnswer;
-#[cfg(feature = "list")]
-use reference::ListAnswer;
-#[cfg(feature = "plan")]
-use reference::PlanAnswer;
-#[cfg(feature = "dispatch")]
-use reference::{Core, CoreAnswer, TickAnswer};
+mod layout;
+
+use reference::{CheckAnswer, Core, CoreAnswer, ListAnswer, PlanAnswer, TickAnswer};
 
 extern "C" {
     fn homvaits_check(sheet: *const u8, len: usize) -> CheckAnswer;
-}
-
-#[cfg(feature = "plan")]
-extern "C" {
     fn homvaits_plan(
         jobs: *const u8,
         len: usize,
@@ -24,19 +16,11 @@ extern "C" {
         out: *mut u8,
         out_len: usize,
     ) -> PlanAnswer;
-}
-
-#[cfg(feature = "dispatch")]
-extern "C" {
     fn homvaits_start(sheet: *const u8, len: usize, core: u64) -> CoreAnswer;
     fn homvaits_start_list(jobs: *const u8, len: usize) -> CoreAnswer;
     fn homvaits_release(core: Core, number: u64) -> CoreAnswer;
     fn homvaits_finish(core: Core, number: u64) -> CoreAnswer;
     fn homvaits_tick(core: Core) -> TickAnswer;
-}
-
-#[cfg(feature = "list")]
-extern "C" {
     fn homvaits_list(sheet: *const u8, len: usize, out: *mut u8, out_len: usize) -> ListAnswer;
 }
 
@@ -47,38 +31,31 @@ pub fn check(sheet: &[u8]) -> CheckAnswer {
     unsafe { homvaits_check(sheet.as_ptr(), sheet.len()) }
 }
 
-#[cfg(feature = "plan")]
 pub fn plan(jobs: &[u8], limit: u64, start: u64, out: &mut [u8]) -> PlanAnswer {
     let (out, out_len) = (out.as_mut_ptr(), out.len());
     unsafe { homvaits_plan(jobs.as_ptr(), jobs.len(), limit, start, out, out_len) }
 }
 
-#[cfg(feature = "dispatch")]
 pub fn start_sheet(sheet: &[u8], core: u64) -> CoreAnswer {
     unsafe { homvaits_start(sheet.as_ptr(), sheet.len(), core) }
 }
 
-#[cfg(feature = "dispatch")]
 pub fn start_list(jobs: &[u8]) -> CoreAnswer {
     unsafe { homvaits_start_list(jobs.as_ptr(), jobs.len()) }
 }
 
-#[cfg(feature = "dispatch")]
 pub fn release(core: Core, number: u64) -> CoreAnswer {
     unsafe { homvaits_release(core, number) }
 }
 
-#[cfg(feature = "dispatch")]
 pub fn finish(core: Core, number: u64) -> CoreAnswer {
     unsafe { homvaits_finish(core, number) }
 }
 
-#[cfg(feature = "dispatch")]
 pub fn tick(core: Core) -> TickAnswer {
     unsafe { homvaits_tick(core) }
 }
 
-#[cfg(feature = "list")]
 pub fn list_into(sheet: &[u8], out: &mut [u8]) -> ListAnswer {
     let (out, out_len) = (out.as_mut_ptr(), out.len());
     unsafe { homvaits_list(sheet.as_ptr(), sheet.len(), out, out_len) }

@@ -1,9 +1,34 @@
 //! Sheets: the checker, and whatever else reads a sheet.
 
-use crate::session::{hex, same, Session};
+use crate::session::{hex, same, Kind, Session};
 use inputs::*;
 
-pub const REFUSALS: [u8; 14] = [1, 2, 3, 4, 5, 6, 7, 8, 9, 10, 11, 12, 13, 14];
+/// Rules 1 to 14 at their places.
+pub const RULES: [Kind; 18] = [
+    (1, "place 0"),
+    (2, "place 0"),
+    (3, "place 0"),
+    (4, "place 0"),
+    (5, "place 0"),
+    (6, "a byte"),
+    (7, "a task above 0"),
+    (8, "a task above 0"),
+    (9, "a task above 0"),
+    (10, "core 0"),
+    (10, "a core above 0"),
+    (11, "a task above 0"),
+    (11, "core 0"),
+    (11, "a core above 0"),
+    (12, "a task above 0"),
+    (13, "a task above 0"),
+    (14, "core 0"),
+    (14, "a core above 0"),
+];
+
+pub fn must_have_seen(session: &Session) {
+    session.must_have_seen("check", &RULES);
+    session.must_have_seen("check", &[(0, "no core"), (0, "one core"), (0, "cores")]);
+}
 
 pub fn round(session: &mut Session, rng: &mut Rng) {
     for length in 0..=800 {
@@ -25,12 +50,9 @@ pub fn round(session: &mut Session, rng: &mut Rng) {
 }
 
 /// Compare all calls that read a sheet on these bytes.
-#[cfg_attr(not(any(feature = "dispatch", feature = "list")), allow(unused))]
 fn sheet(session: &mut Session, rng: &mut Rng, bytes: &[u8]) {
     check(session, bytes);
-    #[cfg(feature = "dispatch")]
     crate::dispatching::start(session, rng, bytes);
-    #[cfg(feature = "list")]
     crate::listing::list(session, rng, bytes);
 }
 
@@ -38,5 +60,14 @@ fn sheet(session: &mut Session, rng: &mut Rng, bytes: &[u8]) {
 pub fn check(session: &mut Session, bytes: &[u8]) {
     let (reference, library) = (reference::check(bytes), binding::check(bytes));
     same("check", || hex(bytes), &reference, &library);
-    session.case("check", reference.refusal);
+    let accepted = count_of_cores(reference.cores);
+    session.case("check", reference.refusal, reference.place, accepted);
+}
+
+pub fn count_of_cores(cores: u8) -> &'static str {
+    match cores {
+        0 => "no core",
+        1 => "one core",
+        _ => "cores",
+    }
 }

@@ -5,13 +5,18 @@ use crate::session::{fail, hex, same, Session};
 use inputs::*;
 use reference::{Core, CoreAnswer, TickAnswer};
 
-pub fn must_have_seen(session: &mut Session) {
-    session.must_have_seen("start", &crate::checking::REFUSALS);
-    session.must_have_seen("start_list", &[4, 5, 7, 8]);
-    session.must_have_seen("release", &[17, 18, 19, 21]);
-    session.must_have_seen("finish", &[17, 20, 21]);
-    session.must_have_seen("tick", &[21]);
-    session.must_have_seen("job on time", &[]);
+pub fn must_have_seen(session: &Session) {
+    let (none, task) = ("place 0", "a task above 0");
+    session.must_have_seen("start", &crate::checking::RULES);
+    session.must_have_seen("start", &[(0, "accepted"), (9, "a missing core")]);
+    session.must_have_seen("start_list", &[(0, "no tasks"), (0, "tasks")]);
+    session.must_have_seen("start_list", &[(4, none), (5, none), (7, task), (8, task)]);
+    session.must_have_seen("release", &[(0, "accepted"), (17, none), (18, task)]);
+    session.must_have_seen("release", &[(19, task), (21, none)]);
+    session.must_have_seen("finish", &[(0, "accepted"), (17, none), (20, task)]);
+    session.must_have_seen("finish", &[(21, none)]);
+    session.must_have_seen("tick", &[(0, "idle"), (0, "served"), (21, none)]);
+    session.must_have_seen("job on time", &[(0, "ended")]);
 }
 
 pub fn round(session: &mut Session, rng: &mut Rng) {
@@ -118,7 +123,7 @@ fn run(
     }
     match jobs_on_time(&log, tasks) {
         Ok(0) => {}
-        Ok(_) => session.case("job on time", 0),
+        Ok(_) => session.case("job on time", 0, 0, "ended"),
         Err(what) => {
             let calls: Vec<Call> = log.iter().map(|entry| entry.call).collect();
             fail("the on-time rule", &format!("{} {calls:?}", input()), &what);
@@ -141,7 +146,10 @@ fn start_sheet(session: &mut Session, bytes: &[u8], core: u64) -> CoreAnswer {
     let library = binding::start_sheet(bytes, core);
     let input = || format!("{} core {core}", hex(bytes));
     same("start", input, &reference, &library);
-    session.case("start", reference.refusal);
+    session.case("start", reference.refusal, reference.place, "accepted");
+    if reference.refusal == 9 && reference::accept(bytes).is_ok() {
+        session.saw("start", (9, "a missing core"));
+    }
     library
 }
 
@@ -149,7 +157,11 @@ fn start_list(session: &mut Session, list: &[u8]) -> CoreAnswer {
     let reference = reference::start_list(list);
     let library = binding::start_list(list);
     same("start_list", || hex(list), &reference, &library);
-    session.case("start_list", reference.refusal);
+    let accepted = match reference.core.count {
+        0 => "no tasks",
+        _ => "tasks",
+    };
+    session.case("start_list", reference.refusal, reference.place, accepted);
     library
 }
 
@@ -158,7 +170,7 @@ fn release(session: &mut Session, core: Core, number: u64) -> CoreAnswer {
     let library = binding::release(core, number);
     let input = || format!("{} number {number}", state_hex(&core));
     same("release", input, &reference, &library);
-    session.case("release", reference.refusal);
+    session.case("release", reference.refusal, reference.place, "accepted");
     library
 }
 
@@ -167,14 +179,19 @@ fn finish(session: &mut Session, core: Core, number: u64) -> CoreAnswer {
     let library = binding::finish(core, number);
     let input = || format!("{} number {number}", state_hex(&core));
     same("finish", input, &reference, &library);
-    session.case("finish", reference.refusal);
+    session.case("finish", reference.refusal, reference.place, "accepted");
     library
 }
 
 fn tick(session: &mut Session, core: Core) -> TickAnswer {
     let (reference, library) = (reference::tick(core), binding::tick(core));
     same("tick", || state_hex(&core), &reference, &library);
-    session.case("tick", reference.refusal);
+    let accepted = match (core.count, reference.task) {
+        (0, _) => "no tasks",
+        (_, reference::IDLE) => "idle",
+        _ => "served",
+    };
+    session.case("tick", reference.refusal, reference.place, accepted);
     library
 }
 

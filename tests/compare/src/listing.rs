@@ -4,7 +4,10 @@ use crate::lent::{same_bytes, Lent};
 use crate::session::{hex, same, Session};
 use inputs::Rng;
 
-pub const REFUSALS: [u8; 1] = [16];
+pub fn must_have_seen(session: &Session) {
+    session.must_have_seen("list", &[(0, "an accepted sheet"), (0, "a refused sheet")]);
+    session.must_have_seen("list", &[(16, "place 0")]);
+}
 
 /// Compare the listing of these bytes, now and then with a small output.
 pub fn list(session: &mut Session, rng: &mut Rng, sheet: &[u8]) {
@@ -17,5 +20,9 @@ pub fn list(session: &mut Session, rng: &mut Rng, sheet: &[u8]) {
     let input = || format!("{} output of {room} bytes", hex(sheet));
     same("list", input, &reference, &library);
     same_bytes("list", input, &ours, &theirs);
-    session.case("list", reference.refusal);
+    let accepted = match reference::check(sheet).refusal {
+        0 => "an accepted sheet",
+        _ => "a refused sheet",
+    };
+    session.case("list", reference.refusal, reference.place, accepted);
 }

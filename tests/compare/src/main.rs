@@ -2,15 +2,10 @@
 //! by byte, on random and damaged inputs. Arguments: seed, rounds.
 
 mod checking;
-#[cfg(feature = "dispatch")]
 mod dispatching;
-#[cfg(any(feature = "plan", feature = "list"))]
 mod lent;
-#[cfg(feature = "list")]
 mod listing;
-#[cfg(feature = "dispatch")]
 mod on_time;
-#[cfg(feature = "plan")]
 mod planning;
 mod session;
 
@@ -30,18 +25,13 @@ fn main() {
     for round in 0..rounds {
         let mut rng = Rng::new(seed.rotate_left(32) ^ round);
         checking::round(&mut session, &mut rng);
-        #[cfg(feature = "plan")]
         planning::round(&mut session, &mut rng);
-        #[cfg(feature = "dispatch")]
         dispatching::round(&mut session, &mut rng);
     }
 
-    session.must_have_seen("check", &checking::REFUSALS);
-    #[cfg(feature = "plan")]
-    session.must_have_seen("plan", &planning::REFUSALS);
-    #[cfg(feature = "dispatch")]
-    dispatching::must_have_seen(&mut session);
-    #[cfg(feature = "list")]
-    session.must_have_seen("list", &listing::REFUSALS);
+    checking::must_have_seen(&session);
+    planning::must_have_seen(&session);
+    dispatching::must_have_seen(&session);
+    listing::must_have_seen(&session);
     println!("compare: {} cases, 0 differences", session.cases);
 }

@@ -1,11 +1,19 @@
 //! The planner.
 
-use crate::checking::check;
+use crate::checking::{check, count_of_cores};
 use crate::lent::{same_bytes, Lent};
 use crate::session::{hex, same, Session};
 use inputs::*;
 
-pub const REFUSALS: [u8; 7] = [4, 5, 7, 8, 15, 16, 22];
+pub fn must_have_seen(session: &Session) {
+    session.must_have_seen("plan", &[(0, "no core"), (0, "one core"), (0, "cores")]);
+    for refusal in [4, 5, 16, 22] {
+        session.must_have_seen("plan", &[(refusal, "place 0")]);
+    }
+    for refusal in [7, 8, 15] {
+        session.must_have_seen("plan", &[(refusal, "a task above 0")]);
+    }
+}
 
 pub fn round(session: &mut Session, rng: &mut Rng) {
     // lists of every length, over 64 entries too
@@ -57,7 +65,8 @@ fn plan(session: &mut Session, rng: &mut Rng, list: &[u8], limit: u64, start: u6
     };
     same("plan", input, &reference, &library);
     same_bytes("plan", input, &ours, &theirs);
-    session.case("plan", reference.refusal);
+    let accepted = count_of_cores(reference.cores);
+    session.case("plan", reference.refusal, reference.place, accepted);
     if reference.refusal == 0 {
         let sheet = &ours.lend()[..reference.length as usize];
         check(session, sheet);

@@ -4,30 +4,52 @@ use std::collections::BTreeSet;
 use std::fmt::Debug;
 use std::process::exit;
 
+/// A refusal, 0 where nothing is refused, and which kind of it.
+pub type Kind = (u8, &'static str);
+
 #[derive(Default)]
 pub struct Session {
     pub cases: u64,
-    seen: BTreeSet<(&'static str, u8)>,
+    seen: BTreeSet<(&'static str, Kind)>,
 }
 
 impl Session {
-    /// Count a case of this call, whose refusal is 0 where it is accepted.
-    pub fn case(&mut self, call: &'static str, refusal: u8) {
+    /// Count a case of this call: its refusal and place, and what it is a case
+    /// of where it is accepted.
+    pub fn case(&mut self, call: &'static str, refusal: u8, place: u16, accepted: &'static str) {
         self.cases += 1;
-        self.seen.insert((call, refusal));
+        let kind = match refusal {
+            0 => accepted,
+            _ => kind_of_place(refusal, place),
+        };
+        self.saw(call, (refusal, kind));
     }
 
-    /// Fail if one of these refusals of a call, or its acceptance, is missing.
-    pub fn must_have_seen(&self, call: &'static str, refusals: &[u8]) {
-        let missing: Vec<&u8> = [0]
+    pub fn saw(&mut self, call: &'static str, kind: Kind) {
+        self.seen.insert((call, kind));
+    }
+
+    /// Fail if one of these kinds never occurred.
+    pub fn must_have_seen(&self, call: &'static str, kinds: &[Kind]) {
+        let missing: Vec<&Kind> = kinds
             .iter()
-            .chain(refusals)
-            .filter(|&&refusal| !self.seen.contains(&(call, refusal)))
+            .filter(|&&kind| !self.seen.contains(&(call, kind)))
             .collect();
         if !missing.is_empty() {
             println!("compare: {call} never answered {missing:?}; more rounds?");
             exit(1);
         }
+    }
+}
+
+/// Place 0 may be task 0 or none.
+fn kind_of_place(refusal: u8, place: u16) -> &'static str {
+    match (refusal, place) {
+        (6, _) => "a byte",
+        (_, 0) => "place 0",
+        (_, 1..64) => "a task above 0",
+        (_, 64) => "core 0",
+        _ => "a core above 0",
     }
 }
 

@@ -89,17 +89,6 @@ impl Core {
     }
 }
 
-// The sizes that a C compiler gives these structs.
-const _: () = {
-    assert!(size_of::<CheckAnswer>() == 6);
-    assert!(size_of::<PlanAnswer>() == 8);
-    assert!(size_of::<ListAnswer>() == 6);
-    assert!(size_of::<Task>() == 10);
-    assert!(size_of::<Core>() == 648);
-    assert!(size_of::<CoreAnswer>() == 656);
-    assert!(size_of::<TickAnswer>() == 656);
-};
-
 impl From<Refusal> for CheckAnswer {
     fn from(refusal: Refusal) -> Self {
         CheckAnswer {

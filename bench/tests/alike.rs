@@ -1,0 +1,53 @@
+//! The library, the plain code and the reference answer alike.
+
+use bench::{plain, workload};
+use inputs::*;
+
+#[test]
+fn check() {
+    let mut rng = Rng::new(1);
+    for sheet in workload::sheets(&mut rng, 20_000) {
+        let expected = reference::check(&sheet);
+        assert_eq!(plain::check(&sheet), expected);
+        assert_eq!(binding::check(&sheet), expected);
+    }
+}
+
+type Plan = fn(&[u8], u64, u64, &mut [u8]) -> reference::PlanAnswer;
+
+#[test]
+fn plan() {
+    let mut rng = Rng::new(2);
+    let mut lists = workload::full_lists(&mut rng, 5);
+    for count in (0..=66).chain(0..=66) {
+        let list = job_list(&mut rng, count);
+        for kind in 0..JOB_DAMAGES {
+            lists.push(damaged_jobs(&mut rng, &list, kind));
+        }
+        lists.push(list);
+    }
+    for list in lists {
+        let (limit, start) = (any_number(&mut rng, 9), any_number(&mut rng, 64));
+        for (limit, start) in [(8, 0), (limit, start)] {
+            let room = rng.pick(&[711, 712, 800]);
+            let run = |call: Plan| {
+                let mut out = vec![165; room];
+                (call(&list, limit, start, &mut out), out)
+            };
+            let expected = run(reference::plan);
+            assert_eq!(run(plain::plan), expected);
+            assert_eq!(run(binding::plan), expected);
+        }
+    }
+}
+
+#[test]
+fn tick() {
+    let mut rng = Rng::new(3);
+    let any = (0..20_000).map(|turn| any_core(&mut rng, turn % CORE_DAMAGES));
+    for core in any.chain([workload::last_pending()]) {
+        let expected = reference::tick(core);
+        assert_eq!(plain::tick(core), expected);
+        assert_eq!(binding::tick(core), expected);
+    }
+}
