@@ -60,7 +60,8 @@ unfoldable pub listAnswer : Option Refused → Answer
 listAnswer none = accepted
 listAnswer (some r) = refused (r .number) (r .place)
 
--- the state that is handed back: of the listed tasks in priority order, each numbered by its place in the list, where the start is accepted, else without tasks
+-- the state that is handed back: of the listed tasks in priority order, numbered by their places in the list, where the start is
+-- accepted, else without tasks
 unfoldable pub listState : Option Refused → List ℕ → Core
 listState none l = stateOf (freshTasks (jobPeriod l) (jobBudget l) (orderBy Period (jobPeriod l) (jobCount l)))
 listState (some r) l = stateOf []

@@ -1,7 +1,5 @@
-//! The layout, as in tests/c/use.c and tests/binding/src/layout.rs: sizes, and of each field its offset and width.
+// The layout, as in tests/c/use.c: sizes, and of each field its offset and width. Included where the structs have these names.
 
-use crate::sys::{Checked, Listed, Planned, Step, Ticked};
-use crate::{Core, Task};
 use std::mem::offset_of;
 
 const fn width<T, F>(_field: fn(&T) -> &F) -> usize {

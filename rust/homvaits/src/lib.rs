@@ -1,6 +1,10 @@
 //! Safe Rust over the proved library. Every call takes any input and always returns; a refusal has document 01's number and place.
 
-mod layout;
+mod layout {
+    use crate::sys::{Checked, Listed, Planned, Step, Ticked};
+    use crate::{Core, Task};
+    include!("layout.rs");
+}
 
 use std::fmt;
 
@@ -35,7 +39,7 @@ pub struct Task {
     pub number: u8,
 }
 
-/// The state of a core. Its operations hand the next state back; a refused one hands it back unaltered.
+/// The state of a core. An operation gives the next state or a refusal, and the state that it was called on stays as it is.
 #[repr(C)]
 #[derive(Clone, Copy, Debug, PartialEq, Eq)]
 pub struct Core {

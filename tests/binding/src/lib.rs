@@ -2,7 +2,11 @@
 //! structs are the reference's, which have the fields of the interface in its
 //! layout.
 
-mod layout;
+mod layout {
+    use reference::{CheckAnswer as Checked, ListAnswer as Listed, PlanAnswer as Planned};
+    use reference::{Core, CoreAnswer as Step, Task, TickAnswer as Ticked};
+    include!("../../../rust/homvaits/src/layout.rs");
+}
 
 use reference::{CheckAnswer, Core, CoreAnswer, ListAnswer, PlanAnswer, TickAnswer};
 
