@@ -8,7 +8,7 @@ use Rattle.sheet.specs.Records.{Figures, figures}
 use Rattle.fit.specs.declared.By.the-variants.{Ring}
 use Rattle.fit.specs.Lists.{numbers, at}
 use Rattle.fit.specs.Ring.{orderBy}
-use Rattle.checker.specs.Tests.{withinOn}
+use Rattle.fit.specs.Cores.{withinOn}
 use Rattle.checker.specs.Verdict.{verdict}
 use Rattle.checker.specs.Verdict as checker
 use Rattle.jobs.specs.Jobs.{listRows}

@@ -23,7 +23,8 @@ use Rattle.fit.proofs.Finds.{find-none, none-find, find-some, findSome-none, no
 use Rattle.fit.proofs.Lists.{each-of, each-both}
 use Rattle.fit.proofs.Priority.{order-members, order-count, order-rising}
 use Rattle.fit.proofs.Levels.{chain-multiples, multiples-chain, multiples-pairs, level-load, budget-within, within-period}
-use Rattle.checker.specs.Tests.{isMarked, taskSpares, coreSpares, isSet, badCore, isNone, bare, badFactor, badPivot, stretchedAt, orderOn, chainBreakOn, overloadedOn}
+use Rattle.fit.specs.Cores.{orderOn}
+use Rattle.checker.specs.Tests.{isMarked, taskSpares, coreSpares, isSet, badCore, isNone, bare, badFactor, badPivot, stretchedAt, chainBreakOn, overloadedOn}
 use Rattle.checker.specs.Rules.{offset, frameRows, spareRows, taskRows, coreRows, fitRows, recordRows, rules}
 use Rattle.checker.specs.Verdict.{accepted, outcome, verdict}
 use Rattle.checker.specs.Accepted.{LoadAtMostOne, Framed, SparesZero, TasksInRange, CoresInRange, CoresFit, Fitting, Acceptable, Schedulable, CoreOf}
@@ -326,8 +327,15 @@ schedulable f k n h g =
     }
 
 -- The acceptance contract: all that a dispatcher uses of an accepted sheet.
-pub core-of : (s : List ℕ) (n c k : ℕ) → verdict s ≡ accepted n c → k < c → CoreOf s k
+pub core-of : (s : List ℕ) (n c k : ℕ) → verdict s ≡ accepted n c → k < c → CoreOf s n c k
 core-of s n c k e h =
     let w = accepted-exactly s n c .0 e in
-    let q : k < coreCount s = rw (w .2) at h in
-    record { tasks = w .0 .frame .tasks; size = w .0 .frame .size; core = q; schedulable = schedulable (figures s) k (w .0 .frame .tasks) q (w .0 .fitting) }
+    let few : n ≤ 64 = omega (arith, w .0 .frame .tasks, w .1) in
+    record {
+      tasks = w .1;
+      cores = w .2;
+      few = few;
+      size = omega (arith, w .0 .frame .size, w .1, w .2);
+      core = h;
+      schedulable = schedulable (figures s) k (w .0 .frame .tasks) (rw (w .2) at h) (w .0 .fitting);
+    }

@@ -25,7 +25,8 @@ use Rattle.fit.proofs.Priority.{order-members, order-count, order-ext}
 use Rattle.fit.proofs.Levels.{load-last}
 use Rattle.checker.specs.declared.Judged.{Judged}
 use Rattle.checker.specs.declared.Judged.the-variants.{Chained, Unchained}
-use Rattle.checker.specs.Tests.{orderOn, chainBreakOn, overloadedOn}
+use Rattle.fit.specs.Cores.{orderOn}
+use Rattle.checker.specs.Tests.{chainBreakOn, overloadedOn}
 use Rattle.checker.specs.Steps.{judged, overInRange, InRange, firstOver}
 
 answer-broken : (o : Option ℕ) (L i : ℕ) → Broken i ≡ chainAnswer o L → o ≡ some i

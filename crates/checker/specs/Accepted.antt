@@ -9,7 +9,7 @@ use Rattle.sheet.specs.Records.{Figures, figures, taskCount, coreCount}
 use Rattle.fit.specs.Lists.{Each, EachPair}
 use Rattle.fit.specs.Priority.{Above}
 use Rattle.fit.specs.Fits.{Multiple, Multiples, load, exactLoad, fullLoad, within}
-use Rattle.checker.specs.Tests.{orderOn}
+use Rattle.fit.specs.Cores.{orderOn}
 
 -- "Load at most one", of core k
 unfoldable pub LoadAtMostOne : Figures → ℕ → Type 0
@@ -75,9 +75,11 @@ pub record Schedulable (p e M : ℕ → ℕ) (Q D : ℕ) (l : List ℕ) : Type 0
   pub level : (xs : List ℕ) (i : ℕ) (ys : List ℕ) → l ≡ xs ++ i ∷ ys → load e M D (M i) (xs ++ i ∷ []) ≤ Q * M i
   pub bounds : Each (λ i. (e i ≤ within Q D (M i)) × (within Q D (M i) ≤ p i)) l
 
--- the same for core k of a sheet, with the sheet's size, as the dispatcher is given it
-pub record CoreOf (s : List ℕ) (k : ℕ) : Type 0 where
-  pub tasks : taskCount s ≤ 64
-  pub size : length s ≡ 8 + 10 * taskCount s + 8 * coreCount s
-  pub core : k < coreCount s
+-- The same for core k of a sheet that is accepted with n tasks and c cores, and the sheet's size: all that a dispatcher uses of the checker.
+pub record CoreOf (s : List ℕ) (n c k : ℕ) : Type 0 where
+  pub tasks : n ≡ taskCount s
+  pub cores : c ≡ coreCount s
+  pub few : n ≤ 64
+  pub size : length s ≡ 8 + 10 * n + 8 * c
+  pub core : k < c
   pub schedulable : Schedulable (figures s .period) (figures s .budget) (figures s .factor) (figures s .pivot k) (figures s .divisor k) (orderOn (figures s) k)

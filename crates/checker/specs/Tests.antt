@@ -9,8 +9,9 @@ use lib.Dec.{leb, eqb}
 use Rattle.sheet.specs.Ranges.{outOf}
 use Rattle.sheet.specs.Records.{Figures}
 use Rattle.fit.specs.Lists.{numbers, find}
-use Rattle.fit.specs.Priority.{isOn, order}
-use Rattle.fit.specs.Fits.{stretched, chainBreak, overloaded, within}
+use Rattle.fit.specs.Priority.{isOn}
+use Rattle.fit.specs.Fits.{stretched, chainBreak, overloaded}
+use Rattle.fit.specs.Cores.{orderOn}
 
 -- "the letters T S H (hexadecimal 54 53 48)"
 unfoldable pub isMarked : List ℕ → Bool
@@ -52,10 +53,6 @@ badPivot Q D k = outOf 60000 (Q k) || outOf 120000 (D k)
 unfoldable pub stretchedAt : Figures → ℕ → Bool
 stretchedAt f i = stretched (f .pivot (f .core i)) (f .divisor (f .core i)) (f .period i) (f .factor i)
 
--- the tasks of a core in priority order
-unfoldable pub orderOn : Figures → ℕ → List ℕ
-orderOn f k = order (f .period) (f .core) k (f .tasks)
-
 -- "factor no multiple of the one before", at the first task of a core by priority
 unfoldable pub chainBreakOn : Figures → ℕ → Option ℕ
 chainBreakOn f k = chainBreak (f .factor) 1 (orderOn f k)
@@ -63,7 +60,3 @@ chainBreakOn f k = chainBreak (f .factor) 1 (orderOn f k)
 -- "load above one"
 unfoldable pub overloadedOn : Figures → ℕ → Bool
 overloadedOn f k = overloaded (f .budget) (f .factor) (f .pivot k) (f .divisor k) (orderOn f k)
-
--- "w is the whole part of Q × M / D", of task i on core k
-unfoldable pub withinOn : Figures → ℕ → ℕ → ℕ
-withinOn f k i = within (f .pivot k) (f .divisor k) (f .factor i)

@@ -18,7 +18,7 @@ use Rattle.sheet.specs.declared.Refusal.the-variants.{Core as NoCore}
 use Rattle.sheet.specs.declared.Finding.{Finding}
 use Rattle.sheet.specs.declared.Finding.the-variants.{Clear, Broken}
 use Rattle.sheet.specs.Table.{scan, findingOf, Refused}
-use Rattle.sheet.specs.Records.{taskCount, periodAt, budgetAt, coreAt}
+use Rattle.sheet.specs.Records.{periodAt, budgetAt, coreAt}
 use Rattle.fit.specs.declared.By.the-variants.{Period}
 use Rattle.fit.specs.Priority.{order}
 use Rattle.fit.specs.Ring.{orderBy}
@@ -26,10 +26,10 @@ use Rattle.fit.proofs.Priority.{order-members, order-count, order-rising}
 use Rattle.fit.proofs.Lists.{each-of}
 use Rattle.checker.specs.declared.Verdict.{Verdict}
 use Rattle.checker.specs.declared.Verdict.the-variants.{Accepted as Passed, Refused as Rejected}
-use Rattle.checker.specs.Tests.{orderOn, withinOn}
+use Rattle.fit.specs.Cores.{orderOn, withinOn}
 use Rattle.checker.specs.Verdict.{verdict, outcomeOf}
 use Rattle.checker.specs.Accepted.{CoreOf}
-use Rattle.checker.proofs.Acceptance.{accepted-exactly, core-of}
+use Rattle.checker.proofs.Acceptance.{core-of}
 use Rattle.jobs.specs.Jobs.{jobCount, jobPeriod, jobBudget, listRows}
 use Rattle.jobs.proofs.Laws.{listed}
 use Rattle.timing.specs.declared.Task.{Task}
@@ -69,20 +69,20 @@ fresh-core p e l f = record {
 }
 
 -- a core that the checker accepts starts fresh
-core-fresh : (s : List ℕ) (k : ℕ) → CoreOf s k → FreshCore (stateOf (sheetTasks s k))
+core-fresh : (s : List ℕ) (n c k : ℕ) → CoreOf s n c k → FreshCore (stateOf (sheetTasks s k))
 unfolding sheetTasks
-core-fresh s k c = fresh-core _ _ _ (schedule-form _ _ _ _ _ _ (c .schedulable))
+core-fresh s n c k h = fresh-core _ _ _ (schedule-form _ _ _ _ _ _ (h .schedulable))
 
 -- the on-time promise of a core that the checker accepts, from its fresh state
-pub core-kept : (s : List ℕ) (k : ℕ) → CoreOf s k → (cs : List Call) → Kept s k (stateOf (sheetTasks s k)) cs
+pub core-kept : (s : List ℕ) (n c k : ℕ) → CoreOf s n c k → (cs : List Call) → Kept s k (stateOf (sheetTasks s k)) cs
 unfolding sheetTasks withinOn
-core-kept s k c cs =
+core-kept s n c k h cs =
     let l : List Task = sheetTasks s k in
-    let f = core-fresh s k c in
+    let f = core-fresh s n c k h in
     record {
-      rule = subst (OnTime _ _) (sym (log-form cs (stateOf l) (f .places) (f .form) ∙ ap (λ t. log answer next t cs) (state-tasks l))) (schedule-on-time _ _ _ _ _ _ (c .schedulable) cs);
+      rule = subst (OnTime _ _) (sym (log-form cs (stateOf l) (f .places) (f .form) ∙ ap (λ t. log answer next t cs) (state-tasks l))) (schedule-on-time _ _ _ _ _ _ (h .schedulable) cs);
       never-foreign = never-foreign cs (stateOf l) (f .places) (f .form);
-      bounds = c .schedulable .bounds;
+      bounds = h .schedulable .bounds;
     }
 
 -- a refused start promises nothing on time
@@ -107,17 +107,14 @@ module _ (s : List ℕ) (k : ℕ) (v : Verdict) (e : outcomeOf v ≡ verdict s) 
     sheet-no-core z r h y q = record { answer = rw (q, passed, le-ltb k c h); core = rw (q, passed, le-ltb k c h) y }
 
     module _ (h : k < c) where
-      accepted-core : CoreOf s k
+      accepted-core : CoreOf s n c k
       accepted-core = core-of s n c k passed h
-
-      counts : n ≡ taskCount s
-      counts = accepted-exactly s n c .0 passed .1
 
       pub sheet-header : 8 ≤ length s
       sheet-header = omega (arith, accepted-core .size)
 
       pub sheet-few : n ≤ 64
-      sheet-few = omega (arith, accepted-core .tasks, counts)
+      sheet-few = accepted-core .few
 
       -- the fresh state of the core, as it is read from the part from byte 8
       module _ (y : Core) (q : y ≡ stateOf (freshTasks (periodAt (take (length s - 8) (drop 8 s))) (budgetAt (take (length s - 8) (drop 8 s))) (order (periodAt (take (length s - 8) (drop 8 s))) (coreAt (take (length s - 8) (drop 8 s))) k n))) where
@@ -125,14 +122,14 @@ module _ (s : List ℕ) (k : ℕ) (v : Verdict) (e : outcomeOf v ≡ verdict s) 
         unfolding sheetTasks orderOn
         fresh =
             let whole : take (length s - 8) (drop 8 s) ≡ drop 8 s = take-all (length s - 8) (drop 8 s) (simp length-drop (omega arith)) in
-            q ∙ rw (whole, counts)
+            q ∙ rw (whole, accepted-core .tasks)
 
         pub sheet-starts : SheetStart s k (record { answer = Accepted; core = y })
         unfolding sheetAnswer sheetState
         sheet-starts = record { answer = rw (passed, lt-ltb k c h); core = rw (passed, lt-ltb k c h) fresh }
 
         pub sheet-timely : Timely s k (record { answer = Accepted; core = y })
-        sheet-timely = record { on-time = λ a cs. subst (λ z. Kept s k z cs) (sym fresh) (core-kept s k accepted-core cs) }
+        sheet-timely = record { on-time = λ a cs. subst (λ z. Kept s k z cs) (sym fresh) (core-kept s n c k accepted-core cs) }
 
 module _ (l : List ℕ) (f : Finding) (e : findingOf f ≡ scan (listRows 0 l)) where
   -- 5, 4, 7 and 8
@@ -164,7 +161,7 @@ unfolding sheetAnswer sheetState
 sheet-fresh s k a = go (verdict s) refl a
   where
     on : (n c : ℕ) (b : Bool) → ltb k c ≡ b → verdict s ≡ verdict.accepted n c → _≡_ {A = Answer} (cond b accepted (refused 9 0)) accepted → FreshCore (stateOf (cond b (sheetTasks s k) []))
-    on n c true h e x = core-fresh s k (core-of s n c k e (ltb-true k c h))
+    on n c true h e x = core-fresh s n c k (core-of s n c k e (ltb-true k c h))
     on n c false h e x = absurd (let z : _≡_ {A = ℕ} 0 1 = cc in omega arith)
 
     go : (o : verdict.Outcome) → verdict s ≡ o → sheetAnswer o k ≡ accepted → FreshCore (sheetState o s k)

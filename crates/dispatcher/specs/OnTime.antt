@@ -4,7 +4,7 @@ use mathlib.Core.Path.{_≡_}
 use mathlib.Core.List.{List}
 use Rattle.sheet.specs.Records.{figures}
 use Rattle.fit.specs.Lists.{Each}
-use Rattle.checker.specs.Tests.{orderOn, withinOn}
+use Rattle.fit.specs.Cores.{orderOn, withinOn}
 use Rattle.timing.specs.Calls.{Call, accepted, log}
 use Rattle.timing.specs.OnTime.{count, isRefused, OnTime}
 use Rattle.dispatcher.specs.declared.Core.{Core}

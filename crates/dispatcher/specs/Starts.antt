@@ -12,7 +12,7 @@ use Rattle.sheet.specs.Records.{figures}
 use Rattle.fit.specs.declared.By.the-variants.{Period}
 use Rattle.fit.specs.Ring.{orderBy}
 use Rattle.fit.specs.Lists.{Each}
-use Rattle.checker.specs.Tests.{orderOn}
+use Rattle.fit.specs.Cores.{orderOn}
 use Rattle.jobs.specs.Jobs.{jobCount, jobPeriod, jobBudget, listRows}
 use Rattle.timing.specs.declared.Task.{Task}
 use Rattle.timing.specs.Calls.{Answer, accepted, refused}

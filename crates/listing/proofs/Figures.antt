@@ -18,7 +18,7 @@ use Rattle.fit.specs.Answers.{Ordered, chainAnswer, chained, loadInRange}
 use Rattle.fit.proofs.Lists.{each-of}
 use Rattle.fit.proofs.Priority.{order-members, order-count}
 use Rattle.fit.proofs.Levels.{multiples-chain, load-last, last-positive, within-period}
-use Rattle.checker.specs.Tests.{orderOn}
+use Rattle.fit.specs.Cores.{orderOn}
 use Rattle.checker.specs.Accepted.{Fitting, LoadAtMostOne}
 use Rattle.listing.specs.Listing.{thousandths, loadOf}
 

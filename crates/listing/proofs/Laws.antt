@@ -11,7 +11,7 @@ use Rattle.sheet.specs.Records.{Figures}
 use Rattle.fit.specs.Lists.{Each}
 use Rattle.fit.specs.Fits.{within, load, lastFactor}
 use Rattle.fit.proofs.Lists.{each-append}
-use Rattle.checker.specs.Tests.{orderOn, withinOn}
+use Rattle.fit.specs.Cores.{orderOn, withinOn}
 use Rattle.checker.specs.Accepted.{Fitting, LoadAtMostOne}
 use Rattle.listing.specs.Decimal.{decimal, valueFrom}
 use Rattle.listing.specs.Listing.{thousandths, loadOf}

@@ -18,7 +18,8 @@ use Rattle.fit.specs.Lists.{numbers, find, orElse, findSome, Each, joined}
 use Rattle.fit.specs.Fits.{chainBreak}
 use Rattle.fit.proofs.Lists.{each-of, each-append, numbers-length}
 use Rattle.fit.proofs.Priority.{order-members}
-use Rattle.checker.specs.Tests.{taskSpares, coreSpares, orderOn, chainBreakOn, withinOn}
+use Rattle.fit.specs.Cores.{orderOn, withinOn}
+use Rattle.checker.specs.Tests.{taskSpares, coreSpares, chainBreakOn}
 use Rattle.checker.specs.Rules.{offset, frameRows, spareRows, taskRows, coreRows, fitRows, recordRows, rules}
 use Rattle.checker.specs.Accepted.{Acceptable, Fitting}
 use Rattle.checker.specs.Verdict.{refused, outcome, verdict}

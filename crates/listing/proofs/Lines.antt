@@ -10,7 +10,7 @@ use Rattle.sheet.specs.Records.{Figures}
 use Rattle.fit.specs.Lists.{numbers, joined}
 use Rattle.fit.specs.Fits.{within}
 use Rattle.fit.proofs.Lists.{joined-next}
-use Rattle.checker.specs.Tests.{withinOn}
+use Rattle.fit.specs.Cores.{withinOn}
 use Rattle.listing.specs.Words.{space, lineFeed}
 use Rattle.listing.specs.Words as the
 use Rattle.listing.specs.Listing.{field, taskLine, loadOf, coreLine}

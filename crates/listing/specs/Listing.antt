@@ -5,7 +5,7 @@ use Rattle.sheet.specs.Numbers.{word}
 use Rattle.sheet.specs.Records.{Figures, figures}
 use Rattle.fit.specs.Lists.{numbers, joined}
 use Rattle.fit.specs.Fits.{exactLoad, fullLoad}
-use Rattle.checker.specs.Tests.{orderOn, withinOn}
+use Rattle.fit.specs.Cores.{orderOn, withinOn}
 use Rattle.checker.specs.Verdict.{Outcome, accepted, refused, verdict}
 use Rattle.listing.specs.Decimal.{decimal}
 use Rattle.listing.specs.Words.{space, lineFeed}

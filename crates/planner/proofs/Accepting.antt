@@ -22,7 +22,7 @@ use Rattle.figures.specs.Constructions.{Acceleration}
 use Rattle.figures.specs.Passing.{firstPassing}
 use Rattle.figures.proofs.Sound.{factors-length}
 use Rattle.figures.proofs.Passing.{Accepted, passing-sound, passing-accepted}
-use Rattle.checker.specs.Tests.{orderOn}
+use Rattle.fit.specs.Cores.{orderOn}
 use Rattle.checker.specs.Accepted.{LoadAtMostOne, Fitting, Acceptable}
 use Rattle.checker.specs.Verdict.{verdict, accepted}
 use Rattle.checker.proofs.Acceptance.{accepted-exactly}
