@@ -31,8 +31,8 @@ unfoldable pub lastFactor : (ℕ → ℕ) → ℕ → List ℕ → ℕ
 lastFactor M d [] = d
 lastFactor M d (i ∷ l) = lastFactor M (M i) l
 
--- The sum of e × D × (L / M) over the list. Where L is a multiple of every M, nothing is rounded, and this is Q × L times the load, which is
--- the sum of e / (Q × M / D).
+-- The sum of e × D × (L / M) over the list. Where L is a multiple of every M nothing is rounded, and this is Q × L times the load, the sum
+-- of e / (Q × M / D).
 unfoldable pub load : (ℕ → ℕ) → (ℕ → ℕ) → ℕ → ℕ → List ℕ → ℕ
 load e M D L l = sum (λ i. e i * D * (L / M i)) l
 
