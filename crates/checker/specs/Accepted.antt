@@ -43,7 +43,7 @@ pub record CoresInRange (f : Figures) : Type 0 where
   pub divisor : (k : ℕ) → k < f .cores → (1 ≤ f .divisor k) × (f .divisor k ≤ 120000)
   pub accelerated : (i : ℕ) → i < f .tasks → f .pivot (f .core i) * f .factor i ≤ f .period i * f .divisor (f .core i)
 
--- rules 13 and 14: on every core the factors are a chain and the load is at most one
+-- rules 13 and 14: every core is simply periodic, and its load is at most one
 pub record CoresFit (f : Figures) : Type 0 where
   pub simply-periodic : (k : ℕ) → k < f .cores → Multiples (f .factor) 1 (orderOn f k)
   pub load : (k : ℕ) → k < f .cores → LoadAtMostOne f k

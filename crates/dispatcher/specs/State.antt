@@ -46,6 +46,6 @@ unfoldable pub eachPair : (Task → Task → Bool) → List Task → Bool
 eachPair q [] = true
 eachPair q (t ∷ s) = each (q t) s && eachPair q s
 
--- 21 Foreign: there are more than 64 tasks, or a field is out of range, a number stands twice, or the tasks are not in priority order
+-- 21 Foreign: there are more than 64 tasks, a task's field is out of range, a number stands twice, or the tasks are not in priority order
 unfoldable pub foreign : Core → Bool
 foreign s = ltb 64 (s .count) || not (each sound (tasksOf s) && (eachPair distinct (tasksOf s) && eachPair above (tasksOf s)))

@@ -1,4 +1,4 @@
--- When a core fits: acceleration, a chain of factors, load at most one; and the bound w (docs/SHEET.md, section 3).
+-- When a core fits: acceleration, simply periodic factors, load at most one; and the bound w (docs/SHEET.md, section 3).
 -- p, e and M are by task number; Q and D are the core's. The list is the core's tasks in priority order.
 use Prim.Native.Nat.{ℕ, _*_, _/_, _%_}
 use mathlib.Core.Path.{_≡_}
@@ -21,7 +21,7 @@ chainBreak M d (i ∷ l) = cond (eqb (M i % d) 0) (chainBreak M (M i) l) (some i
 unfoldable pub Multiple : ℕ → ℕ → Type 0
 Multiple d m = (c : ℕ) × (m ≡ d * c)
 
--- a chain of factors: each along the list is a multiple of the one before it, the first one of d
+-- simply periodic: each factor along the list is a multiple of the one before it, the first one of d
 unfoldable pub Multiples : (ℕ → ℕ) → ℕ → List ℕ → Type 0
 Multiples M d [] = Unit {0}
 Multiples M d (i ∷ l) = Multiple d (M i) × Multiples M (M i) l
