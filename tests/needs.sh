@@ -4,7 +4,8 @@ set -euo pipefail
 lib=${1:-${HOMVAITS_LIB:-$(dirname "$0")/../target/staticlib/libcapi.a}}
 bound=8192      # bytes of stack for any call
 by_value=648    # bytes of a state that a caller hands in by value
-digits=10       # listing::put_number calls itself once for each digit of a u32
+# functions that call themselves, and how often one call is there at most: put_number once for each digit of a u32
+declare -A times=([listing::put_number]=10)
 
 fail() {
     echo "needs: $*" >&2
@@ -41,26 +42,28 @@ done < <(objdump -dr --no-show-raw-insn "$lib" | awk '
     $2 == "push" { print "push"; next }
     $2 == "call" && $NF == "<" name ">" { print "call", name; next }
     $2 == "call" && $3 ~ /^\*/ { print "odd", $2, $3; next }
-    $2 ~ /^(add|pop|cmp|test)/ { next }
+    $2 == "cmp" || $2 == "test" { next }
+    $3 ~ /^\$0xffff.*,%rsp$/ { print "odd", $2, $3; next } # below zero
+    $2 == "add" && $3 ~ /^\$0x[0-9a-f]+,%rsp$/ { next }
     $2 == "sub" && $3 ~ /^\$0x[0-9a-f]+,%rsp$/ { sub(/^\$/, "", $3); sub(/,.*/, "", $3); print "sub", $3; next }
     $3 ~ /,%rsp$/ || $2 ~ /^(enter|leave)/ { print "odd", $2, $3 }
 ')
 
 depth() { # sets `deep` to the stack that a function uses
-    local f=$1 g most again=0
+    local f=$1 g most here=1
     case $f in memcpy | memset) deep=8 && return ;; esac
     [ -n "${frame[$f]:-}" ] || fail "$f is called, and is not there"
     most=${below[$f]}
     for g in ${callees[$f]}; do
         if [ "$g" = "$f" ]; then
-            [ "$f" = listing::put_number ] || fail "$f calls itself"
-            again=$((digits - 1))
+            here=${times[$f]:-}
+            [ -n "$here" ] || fail "$f calls itself"
             continue
         fi
         depth "$g"
         [ "$deep" -le "$most" ] || most=$deep
     done
-    deep=$((frame[$f] * (again + 1) + most))
+    deep=$((frame[$f] * here + most))
 }
 for call in $calls; do
     depth "homvaits_$call"
