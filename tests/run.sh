@@ -11,6 +11,6 @@ cargo run -q --release --offline -p compare -- "${1:-1}" "${2:-20}"
 cargo test -q --release --offline -p compare
 (cd ../bench && cargo test -q --release --offline)
 (cd ../rust/homvaits && cargo test -q --release --offline)
-cc -std=c11 -O1 -Wall -Wextra -Werror -I../include c/use.c "$HOMVAITS_LIB" -o "$CARGO_TARGET_DIR/use-c"
-"$CARGO_TARGET_DIR/use-c"
+./c.sh
+./needs.sh
 ./programs.sh
