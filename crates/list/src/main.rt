@@ -16,8 +16,8 @@ fn list_sheet(sheet: &[u8]) {
     }
 }
 
-// Reads one byte more than a sheet can have. Of a longer input the rest is left unread, which changes nothing: rules 1 to 4 look at the
-// first 7 bytes, and rule 5 refuses 713 bytes as it refuses any greater length (proved as `listing-cut`).
+// Reads one byte more than a sheet can have. Of a longer input the rest is left unread, which changes nothing: mark, version and counts
+// stand in the first 7 bytes, and 713 bytes are too many just as any greater number is (proved as `listing-cut`).
 fn list_input() {
     let mut sheet = [0u8; 713];
     let got = input::read_input(&mut sheet);
