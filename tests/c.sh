@@ -11,6 +11,10 @@ cc -std=c11 $flags c/use.c "$lib" -o "$out/use-c"
 "$out/use-c"
 c++ -std=c++11 $flags -x c++ c/use.c -x none "$lib" -o "$out/use-c++"
 "$out/use-c++"
+# the example of the README
+awk '/^```c$/ { on = 1; next } /^```$/ { on = 0 } on' ../README.md > "$out/readme.c"
+cc -std=c11 $flags "$out/readme.c" "$lib" -o "$out/readme-c"
+"$out/readme-c"
 # with -z now the first memcpy does not look itself up on the measured stack
 cc -std=c11 $flags c/stack.c "$lib" -Wl,-z,now -o "$out/stack"
 "$out/stack"
