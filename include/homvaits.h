@@ -1,8 +1,15 @@
-/* Homvaits: checks, plans and runs timing sheets (mark TSH).
+/* Homvaits: checks, plans and runs timing sheets. What a sheet is and when a core fits is told in docs/SHEET.md.
  *
- * Link libcapi.a (`rt staticlib capi`; x86-64 Linux). Every call takes any bytes and any numbers, and always returns.
- * A pointer must be valid for its length (it may be anything where the length is 0, but not null), and an output must not overlap an input.
- * `refusal` is 0 where nothing is refused, else the number in the scope paper's table; fields that do not apply are 0. */
+ * Link libcapi.a (`rt staticlib capi`; x86-64 Linux). It has no heap and no globals, so every call is reentrant and may be made from any
+ * thread, and it needs nothing but memcpy and memset.
+ *
+ * Every call takes any bytes and any numbers, and always returns. What the caller must see to:
+ * - a pointer is valid for its length; where the length is 0 it may be anything but null;
+ * - an output does not overlap an input, and nothing else writes either during a call.
+ *
+ * Every answer has a `refusal`: 0 where nothing is refused, else one of the numbers below, with its `place`. The rules of a call are
+ * applied in the order given at the call, and the first that is broken is the answer. A refused call writes no byte of an output, and
+ * hands a state back as it was given. Fields of an answer that do not apply are 0 and mean nothing. */
 #ifndef HOMVAITS_H
 #define HOMVAITS_H
 
@@ -13,75 +20,164 @@
 extern "C" {
 #endif
 
-#define HOMVAITS_SHEET_MAX 712u /* the longest sheet, and the least output of homvaits_plan */
-#define HOMVAITS_TEXT_MAX 8192u /* the least output of homvaits_list */
-#define HOMVAITS_IDLE 255u      /* homvaits_ticked.task where nothing was pending */
+#define HOMVAITS_SHEET_MAX 712u /* bytes of the longest sheet, and the least output of homvaits_plan */
+#define HOMVAITS_TEXT_MAX 8192u /* the least output of homvaits_list, enough for every listing */
+#define HOMVAITS_IDLE 255u      /* homvaits_ticked.task where no task was pending */
 
-/* A task of a running core. A core's tasks stand in priority order. */
-typedef struct {
+/* Refusals, with what `place` is: "task" is a task number, "core" is 64 plus a core number. */
+typedef enum homvaits_refusal {
+    HOMVAITS_STUB = 1,      /* under 8 bytes; 0 */
+    HOMVAITS_MARK = 2,      /* the bytes do not begin with T S H; 0 */
+    HOMVAITS_VERSION = 3,   /* the version is not 1; 0 */
+    HOMVAITS_COUNT = 4,     /* over 64 tasks or jobs, over 8 cores, or a core limit above 8; 0 */
+    HOMVAITS_LENGTH = 5,    /* not the length that the counts give, or a job list that is no multiple of 4; 0 */
+    HOMVAITS_SPARE = 6,     /* a spare byte is not zero; the byte's offset */
+    HOMVAITS_PERIOD = 7,    /* a period is not 1 to 60,000; task */
+    HOMVAITS_BUDGET = 8,    /* a budget is 0 or above the period; task */
+    HOMVAITS_CORE = 9,      /* there is no such core; task, or 0 for the core that a start names */
+    HOMVAITS_BARE = 10,     /* a core has no task; core */
+    HOMVAITS_FACTOR = 11,   /* a factor or divisor is not 1 to 120,000, or a pivot not 1 to 60,000; task (factor) or core (others) */
+    HOMVAITS_STRETCH = 12,  /* a task's accelerated period is longer than its period; task */
+    HOMVAITS_CHAIN = 13,    /* a factor is no multiple of the one before it by priority; task */
+    HOMVAITS_OVERLOAD = 14, /* a core has more work than time; core */
+    HOMVAITS_NO_FIT = 15,   /* the planner finds no core for a task; task */
+    HOMVAITS_TIGHT = 16,    /* the output is too short; 0 */
+    HOMVAITS_UNLISTED = 17, /* the core has no such task; 0 */
+    HOMVAITS_EARLY = 18,    /* fewer ticks than its period since the task's last release; task */
+    HOMVAITS_LATE = 19,     /* the task's last job is still pending; task */
+    HOMVAITS_QUIET = 20,    /* the task has no pending job; task */
+    HOMVAITS_FOREIGN = 21,  /* the state breaks the form of a state: it is damaged; 0 */
+    HOMVAITS_START = 22     /* the start is no position in the ring; 0 */
+} homvaits_refusal;
+
+/* A task of a running core. */
+typedef struct homvaits_task {
     uint16_t period;
     uint16_t budget;
-    uint16_t age;  /* ticks since the last accepted release, up to the period */
-    uint16_t left; /* ticks left to its job; above 0 while it is pending */
+    uint16_t age;  /* ticks since its last accepted release, up to the period; the period before the first */
+    uint16_t left; /* ticks left to its job, which is pending while this is above 0 */
     uint8_t number;
 } homvaits_task;
 
-/* The state of a core. It is handed in and back by value; keep the last one that was handed back. */
-typedef struct {
+/* The state of a core: its tasks are the first `count` places, in priority order. It is handed in and back by value; keep the last one
+ * that was handed back, and change nothing in it. Such a state is never FOREIGN. A damaged one is, where it breaks the form of a state
+ * (docs/SHEET.md, 6); other damage goes unnoticed. */
+typedef struct homvaits_core {
     uint64_t count;
     homvaits_task tasks[64];
 } homvaits_core;
 
-typedef struct {
+typedef struct homvaits_checked {
     uint8_t refusal;
     uint16_t place;
-    uint8_t tasks;
+    uint8_t tasks; /* how many the sheet has */
     uint8_t cores;
 } homvaits_checked;
 
-typedef struct {
+typedef struct homvaits_planned {
     uint8_t refusal;
     uint16_t place;
     uint8_t tasks;
     uint8_t cores;
-    uint16_t length;
+    uint16_t length; /* of the sheet, which stands at the front of the output */
 } homvaits_planned;
 
-typedef struct {
+typedef struct homvaits_step {
     uint8_t refusal;
     uint16_t place;
-    homvaits_core core;
+    homvaits_core core; /* the next state */
 } homvaits_step;
 
-typedef struct {
+typedef struct homvaits_ticked {
     uint8_t refusal;
     uint16_t place;
-    uint8_t task; /* the task that got the tick, or HOMVAITS_IDLE */
-    homvaits_core core;
+    uint8_t task;       /* who has the tick, or HOMVAITS_IDLE; means nothing in a refused tick */
+    homvaits_core core; /* the next state */
 } homvaits_ticked;
 
-typedef struct {
+typedef struct homvaits_listed {
     uint8_t refusal;
     uint16_t place;
-    uint16_t length;
+    uint16_t length; /* of the text, which stands at the front of the output; no zero byte follows it */
 } homvaits_listed;
 
-/* Is this a sheet that fits? */
+/* Checks a sheet. Accepted: it is a sheet and every core fits; the answer has its counts.
+ *
+ * Refusals, each rule over the whole sheet before the next, tasks by number and then cores by number:
+ *   1 STUB, 2 MARK, 3 VERSION, 4 COUNT, 5 LENGTH   place 0: these bytes are no sheet of version 1
+ *   6 SPARE                                        the offset of the first spare byte that is not zero
+ *   7 PERIOD, 8 BUDGET, 9 CORE                     the task whose record is out of range
+ *   10 BARE                                        64 + core
+ *   11 FACTOR                                      the task of a bad factor, else 64 + the core of a bad pivot or divisor
+ *   12 STRETCH                                     the task
+ *   13 CHAIN                                       the task, looked for core by core and by priority inside a core
+ *   14 OVERLOAD                                    64 + core
+ * Do not run a refused sheet: mend it at the place, or plan again. */
 homvaits_checked homvaits_check(const uint8_t *sheet, size_t len);
 
-/* Plans a job list (4 bytes a job: period, budget, low byte first) on at most `limit` cores, walking the ring from `start`, into `out`. */
+/* Plans a job list: 4 bytes a job, its period and its budget, low byte first. A job's place in the list, from 0, is its task number.
+ * At most `limit` cores are used (0 to 8), and the ring of the jobs is walked from position `start`; other starts may find other plans.
+ * The sheet is written to the front of `out`, and the bytes past it stay as they were. homvaits_check accepts every sheet written here.
+ *
+ * Refusals, in this order:
+ *   5 LENGTH    place 0: `len` is no multiple of 4
+ *   4 COUNT     place 0: over 64 jobs, or `limit` is above 8
+ *   7 PERIOD    the task: its period is not 1 to 60,000
+ *   8 BUDGET    the task: its budget is 0 or above its period
+ *   22 START    place 0: `start` is not below the number of jobs (not 0 where there are none)
+ *   16 TIGHT    place 0: `out_len` is below HOMVAITS_SHEET_MAX
+ *   15 NO_FIT   the task that found no core: try another start, more cores or smaller budgets */
 homvaits_planned homvaits_plan(const uint8_t *jobs, size_t len, uint64_t limit, uint64_t start, uint8_t *out, size_t out_len);
 
-/* The fresh state of a core of a sheet, or of a job list that nothing promises to fit. */
+/* Starts core number `core` of a sheet: its tasks, any of which may be released at once. A core started from an accepted sheet ends
+ * every job on time, that is within the ticks that the listing calls `within`, whatever is released, finished and ticked.
+ *
+ * Refusals: 1 to 14 as homvaits_check gives them, then
+ *   9 CORE    place 0: the sheet has no core of this number
+ * A refused start hands out a core without tasks, whose ticks are all idle. */
 homvaits_step homvaits_start(const uint8_t *sheet, size_t len, uint64_t core);
+
+/* Starts a core from a job list (as in homvaits_plan) without a sheet, for the bench: nothing promises that its jobs end on time.
+ *
+ * Refusals, in this order:
+ *   5 LENGTH    place 0: `len` is no multiple of 4
+ *   4 COUNT     place 0: over 64 jobs
+ *   7 PERIOD    the task: its period is not 1 to 60,000
+ *   8 BUDGET    the task: its budget is 0 or above its period
+ * A refused start hands out a core without tasks, whose ticks are all idle. */
 homvaits_step homvaits_start_list(const uint8_t *jobs, size_t len);
 
-/* A job of a task begins; a job ends before its budget is used; one tick of the core. */
-homvaits_step homvaits_release(homvaits_core core, uint64_t number);
-homvaits_step homvaits_finish(homvaits_core core, uint64_t number);
+/* Releases a task: a job of it begins, and is pending until it has had as many ticks as the budget, or is finished.
+ *
+ * Refusals, in this order:
+ *   21 FOREIGN     place 0: the state is damaged; start the core again
+ *   17 UNLISTED    place 0: the core has no task of this number
+ *   18 EARLY       the task: fewer ticks than its period since its last accepted release; release it later
+ *   19 LATE        the task: its last job is still pending. Never on a core started from a sheet. */
+homvaits_step homvaits_release(homvaits_core core, uint64_t task);
+
+/* Finishes a task's job that ends before its budget is used. A job whose budget is used ends by itself and needs no finish.
+ * The task's age stands: it may be released again a period after the last release, not after the finish.
+ *
+ * Refusals, in this order:
+ *   21 FOREIGN     place 0: the state is damaged; start the core again
+ *   17 UNLISTED    place 0: the core has no task of this number
+ *   20 QUIET       the task: it has no pending job; there is nothing to do */
+homvaits_step homvaits_finish(homvaits_core core, uint64_t task);
+
+/* Begins a unit of time, and answers who has it: the first pending task by priority, or HOMVAITS_IDLE where none is pending. Call it
+ * once for each unit, and let the task run until the next. The unit is counted as used: it is taken from the task's job, and every age
+ * rises by one, up to the period.
+ *
+ * Refusal:
+ *   21 FOREIGN    place 0: the state is damaged; start the core again */
 homvaits_ticked homvaits_tick(homvaits_core core);
 
-/* The listing of a sheet as text. A refused sheet has a listing too (`refused N place P`); the call's own refusal is 16 only. */
+/* Writes the listing of any bytes to the front of `out`, as text; the bytes past it stay as they were. A refused sheet has a listing
+ * too, one line such as `refused 14 place 64`, and that is no refusal of this call.
+ *
+ * Refusal:
+ *   16 TIGHT    place 0: `out_len` is below HOMVAITS_TEXT_MAX */
 homvaits_listed homvaits_list(const uint8_t *sheet, size_t len, uint8_t *out, size_t out_len);
 
 #ifdef __cplusplus

@@ -1,6 +1,6 @@
 #!/usr/bin/env bash
 # The programs list and plan, and run-example: what they print on standard output and standard error, and their exit status.
-# Stored and written here is what document 01 gives, and for plan's own messages what docs/DECISIONS.md says.
+# Stored and written here is what the rules of sheets and plans give, and for the programs' own messages what docs/DECISIONS.md says.
 set -euo pipefail
 cd "$(dirname "$0")/.."
 room=$(mktemp -d)
@@ -41,17 +41,50 @@ noise() {
     printf "$text"
 }
 
+# A command whose standard input brings 100 bytes and then an error: the end of a part of this shell's memory that nothing follows.
+broken() {
+    local range end=
+    while read -r range _; do
+        [ -z "$end" ] || [ "$end" = "${range%-*}" ] || break
+        end=${range#*-}
+    done < /proc/self/maps
+    { dd bs=1 count=0 skip=$((16#$end - 100)) status=none; "$@"; } < /proc/self/mem
+}
+
+# What run-example says before it works on a job list.
+works_on() { printf 'run-example: plans %s and lists the sheet; the first run proves all that plan and list need, which takes about three minutes, or more on a busy machine\\n' "$1"; }
+
 # So many times the same line.
 lines() { for ((i = 0; i < $1; i++)); do echo "$2"; done; }
+
+# run-example: what it cannot start on. A folder with what it calls, rt left out; /dev/tty cannot be opened without a terminal.
+usage='usage: run-example [JOBS [LIMIT [START]]]\n'
+mkdir "$room/bin"
+ln -s "$(command -v bash)" "$(command -v dirname)" "$room/bin"
+for word in -h --help ''; do
+    try "run-example '$word'" 2 '' "$usage" ./run-example "$word"
+done
+try 'run-example --help as limit' 2 '' "$usage" ./run-example examples/full-core.jobs --help
+try 'run-example with no number as start' 2 '' "$usage" ./run-example examples/full-core.jobs 8 one
+try 'run-example with four arguments' 2 '' "$usage" ./run-example examples/full-core.jobs 8 0 0
+try 'run-example of no file' 1 '' "run-example: there is no job list $room/none\n" ./run-example "$room/none"
+try 'run-example of a directory' 1 '' 'run-example: examples is a directory, not a job list\n' ./run-example examples
+try 'run-example of an unreadable file' 1 '' 'run-example: the job list /dev/tty cannot be read\n' setsid -w ./run-example /dev/tty
+try 'run-example without rt' 1 '' 'run-example: the Rattle toolchain, rt, is not on the PATH\n' env PATH="$room/bin" ./run-example
+try 'run.sh without the library' 1 '' "run.sh: there is no library $room/none; rt staticlib capi makes target/staticlib/libcapi.a\n" \
+    env HOMVAITS_LIB="$room/none" tests/run.sh
 
 # The examples; the first builds the programs.
 for jobs in examples/*.jobs; do
     name=$(basename "$jobs" .jobs)
     expected=$(cat "tests/programs/$name.out"; echo .)
-    try "run-example $name" 0 "${expected%.}" '' ./run-example "$jobs"
+    try "run-example $name" 0 "${expected%.}" "$(works_on "$jobs")" ./run-example "$jobs"
 done
-# The ring begins with period 64, task 4.
-try 'run-example without a core' 1 '' 'refused 15 place 4\n' ./run-example examples/ten-tasks.jobs 0
+try 'run-example by itself' 0 "$(cat tests/programs/full-core.out)\n" "$(works_on "$PWD/examples/full-core.jobs")" ./run-example
+try 'run-example in another folder' 0 "$(cat tests/programs/full-core.out)\n" "$(works_on full-core.jobs)" sh -c 'cd examples && ../run-example full-core.jobs 1 0'
+# The ring begins with period 64, task 4, on line 6.
+try 'run-example without a core' 1 '' "$(works_on examples/ten-tasks.jobs)refused 15 place 4 line 6: no core takes this job\n" \
+    ./run-example examples/ten-tasks.jobs 0
 
 list=target/bin/list
 plan=target/bin/plan
@@ -78,6 +111,14 @@ try 'list of 2,000 bytes with a mark' 0 'refused 3 place 0\n' '' $list < <(print
 try 'list of 2,000 bytes with a header' 0 'refused 5 place 0\n' '' $list < <(printf 'TSH\1\0\100\10\0'; noise 1992)
 try 'list to a full device' 0 '' 'standard output: No space left on device\n' sh -c "$list > /dev/full" < <(sheet_b 6 4 0)
 
+# list: arguments, at which nothing is read, and input that cannot be read.
+for word in --help SHEET ''; do
+    try "list '$word'" 0 'left\n' 'usage: list < SHEET\n' sh -c "$list '$word'; cat" < <(echo left)
+done
+try 'list of a directory' 0 '' 'standard input: Is a directory\n' $list < examples
+try 'list of a closed input' 0 '' 'standard input: Bad file descriptor\n' sh -c "$list <&-"
+try 'list of an input that breaks off' 0 '' 'standard input: Input/output error\n' broken $list
+
 # The longest sheet, 712 bytes: 64 jobs that fill eight cores, eight each.
 longest=$(
     echo 'TSH 1 tasks 64 cores 8'
@@ -93,21 +134,39 @@ try 'plan of card I' 0 'TSH\1\0\2\1\0\5\0\1\0\0\0\1\0\0\0\11\0\7\0\0\0\2\0\0\0\1
 try 'plan of a comment' 0 'TSH\1\0\0\0\0' '' $plan < <(echo '# no job')
 try 'plan of nothing' 0 'TSH\1\0\0\0\0' '' $plan 0 0 < /dev/null
 
-# plan: refusals. In the ring of 5 and 9 the 9, task 1, stands first.
-try 'plan without a core' 0 '' 'refused 15 place 1\n' $plan 0 < examples/full-core.jobs
-try 'plan of card H' 0 '' 'refused 15 place 1\n' $plan 1 0 < <(printf '10 4\n15 9\n')
-try 'plan with a limit above 8' 0 '' 'refused 4 place 0\n' $plan 9 < examples/full-core.jobs
-try 'plan with a wrong start' 0 '' 'refused 22 place 0\n' $plan 8 2 < examples/full-core.jobs
-try 'plan of nothing with a wrong start' 0 '' 'refused 22 place 0\n' $plan 8 1 < /dev/null
-try 'plan with a wrong period' 0 '' 'refused 7 place 1\n' $plan < <(printf '5 6\n60001 1\n')
-try 'plan with a wrong budget' 0 '' 'refused 8 place 1\n' $plan < <(printf '5 5\n9 10\n')
+# plan: refusals. In the ring of 5 and 9 the 9, task 1, stands first; in the example it is on line 4.
+try 'plan without a core' 0 '' 'refused 15 place 1 line 4: no core takes this job\n' $plan 0 < examples/full-core.jobs
+try 'plan of card H' 0 '' 'refused 15 place 1 line 2: no core takes this job\n' $plan 1 0 < <(printf '10 4\n15 9\n')
+try 'plan with a wrong period' 0 '' 'refused 7 place 1 line 2: the period is not 1 to 60000\n' $plan < <(printf '5 6\n60001 1\n')
+try 'plan with a wrong budget' 0 '' 'refused 8 place 1 line 2: the budget is not 1 to the period\n' $plan < <(printf '5 5\n9 10\n')
+try 'plan with blank lines and comments' 0 '' 'refused 8 place 1 line 6: the budget is not 1 to the period\n' \
+    $plan < <(printf '# period, budget\n\n5 5 # whole\r\n \t\n#\n9 0\n')
+limit='refused 4 place 0: the core limit is above 8\n'
+start='refused 22 place 0: the start is not below the number of jobs\n'
+try 'plan with a limit above 8' 0 '' "$limit" $plan 9 < examples/full-core.jobs
+try 'plan with a limit of twenty digits' 0 '' "$limit" $plan 18446744073709551617 < examples/full-core.jobs
+try 'plan with a wrong start' 0 '' "$start" $plan 8 2 < examples/full-core.jobs
+try 'plan with a start of twenty digits' 0 '' "$start" $plan 8 18446744073709551617 < examples/full-core.jobs
+try 'plan of nothing with a wrong start' 0 '' 'refused 22 place 0: the start of an empty list is not 0\n' $plan 8 1 < /dev/null
 
-# plan: text and arguments that it cannot read.
-try 'plan with a wrong line' 0 '' 'line 3 is not a job\n' $plan < <(printf '# two numbers a line\n5 1\n9\n')
-try 'plan of 65 jobs' 0 '' 'line 65 is not a job\n' $plan < <(lines 65 '8 1')
-try 'plan of a text too long' 0 '' 'the text is longer than 65535 bytes\n' $plan < <(printf '#%65535s' '')
+# plan: text that it cannot read.
+no_job='is not a job: a line has a period and a budget\n'
+try 'plan of one number' 0 '' "line 3 $no_job" $plan < <(printf '# two numbers a line\n5 1\n9\n')
+try 'plan of three numbers' 0 '' "line 1 $no_job" $plan < <(echo '5 1 1')
+try 'plan of another character' 0 '' "line 1 $no_job" $plan < <(echo '70000 x')
+try 'plan of a large period' 0 '' 'line 2 has a number above 65535\n' $plan < <(printf '\n65536 1\n')
+try 'plan of a large budget' 0 '' 'line 1 has a number above 65535\n' $plan < <(printf '5 70000 # ticks')
+try 'plan of 65 jobs' 0 '' 'line 65: more than 64 jobs\n' $plan < <(lines 65 '8 1')
+try 'plan of a text too long' 0 '' 'the text is longer than the limit of 65535 bytes\n' $plan < <(printf '#%65535s' '')
 try 'plan of the longest text' 0 'TSH\1\0\0\0\0' '' $plan < <(printf '#%65534s' '')
-try 'plan with no number as limit' 0 '' 'argument 1 is not a number\n' $plan two < examples/full-core.jobs
-try 'plan with no number as start' 0 '' 'argument 2 is not a number\n' $plan 8 -1 < examples/full-core.jobs
+
+# plan: arguments that it does not take, at which nothing is read, and input and output that fail.
+usage='usage: plan [LIMIT [START]] < JOBS > SHEET\n'
+for words in --help "''" two -1 '8 one' "8 ''" '8 0 0' "$(printf '%05000d' 0)" "8 $(printf '%05000d' 0)"; do
+    try "plan ${words::20}" 0 'left\n' "$usage" sh -c "$plan $words; cat" < <(echo left)
+done
+try 'plan of a directory' 0 '' 'standard input: Is a directory\n' $plan < examples
+try 'plan of a closed input' 0 '' 'standard input: Bad file descriptor\n' sh -c "$plan <&-"
+try 'plan of an input that breaks off' 0 '' 'standard input: Input/output error\n' broken $plan
 try 'plan to a full device' 0 '' 'standard output: No space left on device\n' sh -c "$plan > /dev/full" < examples/full-core.jobs
 echo "programs: $cases cases"

@@ -2,7 +2,11 @@
 # The outside tests against the proved library (`rt staticlib capi` makes it) and the programs. Arguments: a seed and a number of rounds.
 set -euo pipefail
 cd "$(dirname "$0")"
-export HOMVAITS_LIB="${HOMVAITS_LIB:-$(realpath ../target/staticlib/libcapi.a)}"
+export HOMVAITS_LIB="${HOMVAITS_LIB:-$(realpath -m ../target/staticlib/libcapi.a)}"
+if [ ! -f "$HOMVAITS_LIB" ]; then
+    echo "run.sh: there is no library $HOMVAITS_LIB; rt staticlib capi makes target/staticlib/libcapi.a" >&2
+    exit 1
+fi
 export CARGO_TARGET_DIR="${CARGO_TARGET_DIR:-$(realpath ..)/target/cargo}"
 
 cargo test -q --release --offline
@@ -11,6 +15,6 @@ cargo run -q --release --offline -p compare -- "${1:-1}" "${2:-20}"
 cargo test -q --release --offline -p compare
 (cd ../bench && cargo test -q --release --offline)
 (cd ../rust/homvaits && cargo test -q --release --offline)
-cc -std=c11 -O1 -Wall -Wextra -Werror -I../include c/use.c "$HOMVAITS_LIB" -o "$CARGO_TARGET_DIR/use-c"
-"$CARGO_TARGET_DIR/use-c"
+./c.sh
+./needs.sh
 ./programs.sh

@@ -28,7 +28,7 @@ pub fn sheets(rng: &mut Rng, count: usize) -> Vec<Vec<u8>> {
     (0..count).map(|_| sheet(rng)).collect()
 }
 
-/// So many lists of 64 jobs that need all of 8 cores.
+/// So many lists of 64 jobs whose plans have all 8 cores.
 pub fn full_lists(rng: &mut Rng, count: usize) -> Vec<Vec<u8>> {
     let mut lists = Vec::new();
     while lists.len() < count {

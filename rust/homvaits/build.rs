@@ -1,16 +1,40 @@
-// Links the library named by HOMVAITS_LIB, a whole path to libcapi.a (made by `rt staticlib capi`).
-use std::path::PathBuf;
+//! Links the library that HOMVAITS_LIB names, or else the one that `rt staticlib capi` writes in this repository.
+
+use std::env;
+use std::path::{Path, PathBuf};
 
 fn main() {
-    println!("cargo:rerun-if-env-changed=HOMVAITS_LIB");
-    let lib = PathBuf::from(std::env::var_os("HOMVAITS_LIB").expect("HOMVAITS_LIB is not set"));
-    println!("cargo:rerun-if-changed={}", lib.display());
-    let folder = lib.parent().expect("HOMVAITS_LIB has no folder");
-    let stem = lib
-        .file_stem()
-        .and_then(|s| s.to_str())
-        .expect("HOMVAITS_LIB has no name");
-    let name = stem.strip_prefix("lib").expect("HOMVAITS_LIB is no lib*.a");
-    println!("cargo:rustc-link-search=native={}", folder.display());
-    println!("cargo:rustc-link-lib=static={name}");
+    println!("cargo::rerun-if-env-changed=HOMVAITS_LIB");
+    if let Err(message) = link() {
+        println!("cargo::error={message}");
+    }
+}
+
+fn link() -> Result<(), String> {
+    let lib = match env::var_os("HOMVAITS_LIB") {
+        Some(path) => PathBuf::from(path),
+        None => Path::new(env!("CARGO_MANIFEST_DIR")).join("../../target/staticlib/libcapi.a"),
+    };
+    let shown = lib.display();
+    // a file that is not there yet is looked for again
+    println!("cargo::rerun-if-changed={shown}");
+    if !lib.is_absolute() {
+        return Err(format!("HOMVAITS_LIB is {shown}: give the whole path"));
+    }
+    if !lib.is_file() {
+        return Err(format!(
+            "there is no library {shown}: run `rt staticlib capi` in the repository, or set HOMVAITS_LIB to the whole path of libcapi.a"
+        ));
+    }
+    let name = lib
+        .file_name()
+        .and_then(|name| name.to_str()?.strip_prefix("lib")?.strip_suffix(".a"));
+    match (name, lib.parent()) {
+        (Some(name), Some(folder)) => {
+            println!("cargo::rustc-link-search=native={}", folder.display());
+            println!("cargo::rustc-link-lib=static={name}");
+            Ok(())
+        }
+        _ => Err(format!("HOMVAITS_LIB is {shown}: its name is no lib*.a")),
+    }
 }

@@ -1,14 +1,15 @@
-/* Uses every call of include/homvaits.h as a set would, on cards I to L of document 01. */
+/* Uses every call of include/homvaits.h as a set would, and gets every kind of refusal once. C11, and C++ too. */
 #include "homvaits.h"
 
 #include <assert.h>
 #include <stddef.h>
 #include <stdio.h>
+#include <string.h>
 
-/* The layout, as in rust/homvaits/src/layout.rs and tests/binding/src/layout.rs: sizes, and of each field its offset and width. */
-#define SIZE(type, size) _Static_assert(sizeof(homvaits_##type) == (size), #type)
+/* The layout, as in rust/homvaits/src/layout.rs: sizes, and of each field its offset and width. */
+#define SIZE(type, size) static_assert(sizeof(homvaits_##type) == (size), #type)
 #define FIELD(type, field, at, width) \
-    _Static_assert(offsetof(homvaits_##type, field) == (at) && sizeof(((homvaits_##type *)0)->field) == (width), #type "." #field)
+    static_assert(offsetof(homvaits_##type, field) == (at) && sizeof(((homvaits_##type *)0)->field) == (width), #type "." #field)
 
 SIZE(task, 10);
 FIELD(task, period, 0, 2);
@@ -50,6 +51,12 @@ FIELD(listed, refusal, 0, 1);
 FIELD(listed, place, 2, 2);
 FIELD(listed, length, 4, 2);
 
+#ifdef __cplusplus
+#define LANGUAGE "C++"
+#else
+#define LANGUAGE "C"
+#endif
+
 static void put(uint8_t *at, unsigned x) { at[0] = (uint8_t)(x % 256); at[1] = (uint8_t)(x / 256); }
 
 static size_t jobs_of(uint8_t *list, const unsigned (*jobs)[2], size_t n) {
@@ -70,7 +77,106 @@ static int same_core(const homvaits_core *a, const homvaits_core *b) {
     return a->count == b->count;
 }
 
+/* Three tasks that fill one core: 3 1, 7 1 and 13 6, with factors 1, 2 and 4. */
+static const uint8_t full[46] = {
+    'T', 'S', 'H', 1, 0, 3, 1, 0,
+    3, 0, 1, 0, 0, 0, 1, 0, 0, 0,
+    7, 0, 1, 0, 0, 0, 2, 0, 0, 0,
+    13, 0, 6, 0, 0, 0, 4, 0, 0, 0,
+    3, 0, 0, 0, 1, 0, 0, 0,
+};
+
+/* That sheet with one byte changed, and what the checker says of it. */
+static const struct { size_t at; uint8_t byte; uint8_t refusal; uint16_t place; } changes[] = {
+    {0, 't', HOMVAITS_MARK, 0},
+    {3, 2, HOMVAITS_VERSION, 0},
+    {5, 65, HOMVAITS_COUNT, 0},
+    {6, 9, HOMVAITS_COUNT, 0},
+    {5, 4, HOMVAITS_LENGTH, 0},
+    {7, 1, HOMVAITS_SPARE, 7},
+    {41, 1, HOMVAITS_SPARE, 41},
+    {18, 0, HOMVAITS_PERIOD, 1},
+    {20, 8, HOMVAITS_BUDGET, 1},
+    {22, 1, HOMVAITS_CORE, 1},
+    {24, 0, HOMVAITS_FACTOR, 1},
+    {42, 0, HOMVAITS_FACTOR, 64},
+    {34, 5, HOMVAITS_STRETCH, 2},
+    {34, 3, HOMVAITS_CHAIN, 2},
+    {30, 7, HOMVAITS_OVERLOAD, 64},
+};
+
+static void check_refusals(void) {
+    uint8_t sheet[54];
+    homvaits_checked checked = homvaits_check(full, sizeof full);
+    assert(checked.refusal == 0 && checked.place == 0 && checked.tasks == 3 && checked.cores == 1);
+    for (size_t i = 0; i < sizeof changes / sizeof changes[0]; i++) {
+        memcpy(sheet, full, sizeof full);
+        sheet[changes[i].at] = changes[i].byte;
+        checked = homvaits_check(sheet, sizeof full);
+        assert(checked.refusal == changes[i].refusal && checked.place == changes[i].place);
+        /* a start has the same refusal, and a core without tasks */
+        homvaits_step step = homvaits_start(sheet, sizeof full, 0);
+        assert(step.refusal == checked.refusal && step.place == checked.place && step.core.count == 0);
+        homvaits_ticked ticked = homvaits_tick(step.core);
+        assert(ticked.refusal == 0 && ticked.task == HOMVAITS_IDLE);
+    }
+    checked = homvaits_check(full, 7);
+    assert(checked.refusal == HOMVAITS_STUB && checked.place == 0);
+
+    /* a second core, without tasks */
+    memcpy(sheet, full, sizeof full);
+    memcpy(sheet + 46, full + 38, 8);
+    sheet[6] = 2;
+    checked = homvaits_check(sheet, sizeof sheet);
+    assert(checked.refusal == HOMVAITS_BARE && checked.place == 65);
+
+    homvaits_step step = homvaits_start(full, sizeof full, 1);
+    assert(step.refusal == HOMVAITS_CORE && step.place == 0 && step.core.count == 0);
+}
+
+static int planned_as(homvaits_planned planned, unsigned refusal, unsigned place) {
+    return planned.refusal == refusal && planned.place == place && planned.length == 0;
+}
+
+static void plan_refusals(void) {
+    uint8_t list[260] = {0}, out[HOMVAITS_SHEET_MAX];
+    const unsigned jobs[3][2] = {{10, 4}, {15, 9}, {60001, 1}};
+    size_t len = jobs_of(list, jobs, 2);
+    memset(out, 170, sizeof out);
+    assert(planned_as(homvaits_plan(list, 7, 1, 0, out, sizeof out), HOMVAITS_LENGTH, 0));
+    assert(planned_as(homvaits_plan(list, len, 9, 0, out, sizeof out), HOMVAITS_COUNT, 0));
+    assert(planned_as(homvaits_plan(list, sizeof list, 1, 0, out, sizeof out), HOMVAITS_COUNT, 0));
+    assert(planned_as(homvaits_plan(list, len, 1, 2, out, sizeof out), HOMVAITS_START, 0));
+    assert(planned_as(homvaits_plan(list, len, 1, 0, out, sizeof out - 1), HOMVAITS_TIGHT, 0));
+    assert(planned_as(homvaits_plan(list, len, 1, 0, out, sizeof out), HOMVAITS_NO_FIT, 1));
+    len = jobs_of(list, jobs, 3);
+    assert(planned_as(homvaits_plan(list, len, 1, 0, out, sizeof out), HOMVAITS_PERIOD, 2));
+    assert(homvaits_start_list(list, len).refusal == HOMVAITS_PERIOD);
+    put(list + 6, 16);
+    put(list + 8, 60000);
+    assert(planned_as(homvaits_plan(list, len, 1, 0, out, sizeof out), HOMVAITS_BUDGET, 1));
+    homvaits_step step = homvaits_start_list(list, len);
+    assert(step.refusal == HOMVAITS_BUDGET && step.place == 1 && step.core.count == 0);
+    assert(homvaits_start_list(list, 7).refusal == HOMVAITS_LENGTH);
+    assert(homvaits_start_list(list, sizeof list).refusal == HOMVAITS_COUNT);
+    for (size_t i = 0; i < sizeof out; i++) assert(out[i] == 170);
+}
+
+static void list_refusals(void) {
+    uint8_t text[HOMVAITS_TEXT_MAX];
+    const char line[] = "refused 1 place 0\n";
+    text[0] = 170;
+    homvaits_listed listed = homvaits_list(full, sizeof full, text, sizeof text - 1);
+    assert(listed.refusal == HOMVAITS_TIGHT && listed.place == 0 && text[0] == 170);
+    listed = homvaits_list(full, 7, text, sizeof text);
+    assert(listed.refusal == 0 && listed.length == sizeof line - 1 && memcmp(text, line, listed.length) == 0);
+}
+
 int main(void) {
+    check_refusals();
+    plan_refusals();
+    list_refusals();
+
     const unsigned jobs[2][2] = {{5, 1}, {9, 7}};
     uint8_t list[8], sheet[HOMVAITS_SHEET_MAX], text[HOMVAITS_TEXT_MAX];
     size_t len = jobs_of(list, jobs, 2);
@@ -94,7 +200,7 @@ int main(void) {
     const uint8_t expected[] = {0, 1, 1, 1, 1, 0, 1, 1, 1};
     homvaits_core core = step.core;
     for (int i = 0; i < 9; i++) {
-        if (i == 4) assert(homvaits_release(core, 0).refusal == 18);
+        if (i == 4) assert(homvaits_release(core, 0).refusal == HOMVAITS_EARLY);
         if (i == 5) {
             step = homvaits_release(core, 0);
             assert(step.refusal == 0);
@@ -106,7 +212,7 @@ int main(void) {
     }
     homvaits_ticked idle = homvaits_tick(core);
     assert(idle.refusal == 0 && idle.task == HOMVAITS_IDLE);
-    assert(homvaits_finish(idle.core, 1).refusal == 20);
+    assert(homvaits_finish(idle.core, 1).refusal == HOMVAITS_QUIET);
 
     /* A job that ends before its budget is used: no ticks are left, the age stands. */
     core = homvaits_start(sheet, planned.length, 0).core;
@@ -118,7 +224,7 @@ int main(void) {
     assert(ticked.core.tasks[1].age == 1 && same_core(&step.core, &ticked.core));
     core = step.core;
     step = homvaits_finish(core, 1);
-    assert(step.refusal == 20 && step.place == 1 && same_core(&step.core, &core));
+    assert(step.refusal == HOMVAITS_QUIET && step.place == 1 && same_core(&step.core, &core));
     assert(homvaits_tick(core).task == HOMVAITS_IDLE);
 
     const unsigned bench[2][2] = {{5, 2}, {7, 4}};
@@ -130,10 +236,18 @@ int main(void) {
         core = homvaits_tick(core).core;
     }
     step = homvaits_release(core, 1);
-    assert(step.refusal == 19 && step.place == 1 && same_core(&step.core, &core));
+    assert(step.refusal == HOMVAITS_LATE && step.place == 1 && same_core(&step.core, &core));
+
+    step = homvaits_release(core, 2);
+    assert(step.refusal == HOMVAITS_UNLISTED && step.place == 0 && same_core(&step.core, &core));
+    step = homvaits_finish(core, UINT64_MAX);
+    assert(step.refusal == HOMVAITS_UNLISTED && step.place == 0 && same_core(&step.core, &core));
 
     core.count = 65;
-    assert(homvaits_tick(core).refusal == 21);
-    puts("C: every call used");
+    ticked = homvaits_tick(core);
+    assert(ticked.refusal == HOMVAITS_FOREIGN && ticked.place == 0 && same_core(&ticked.core, &core));
+    assert(homvaits_release(core, 0).refusal == HOMVAITS_FOREIGN);
+    assert(homvaits_finish(core, 0).refusal == HOMVAITS_FOREIGN);
+    puts(LANGUAGE ": every call used");
     return 0;
 }

@@ -56,7 +56,7 @@ positive words.Quiet = lit≤ tt
 positive words.Foreign = lit≤ tt
 positive words.Start = lit≤ tt
 
--- check
+-- the checker's answer
 pub checked-accepted : (v : Verdict) (o : check.Outcome) (n c : ℕ) → check.outcomeOf v ≡ o → v ≡ verdicts.Accepted n c → record { refusal = 0; place = 0; tasks = n; cores = c } ≡ checkedOf o
 unfolding checkedOf
 checked-accepted v o n c e h = ap checkedOf (sym (ap check.outcomeOf h) ∙ e)
@@ -65,7 +65,7 @@ pub checked-refused : (v : Verdict) (o : check.Outcome) (w : Refusal) (k p : ℕ
 unfolding checkedOf
 checked-refused v o w k p e h r = rw r (ap checkedOf (sym (ap check.outcomeOf h) ∙ e))
 
--- plan
+-- the planner's
 pub planned-written : (v : Planned) (o : plan.Outcome) (n c s : ℕ) → plan.outcomeOf v ≡ o → v ≡ plans.Written n c s → record { refusal = 0; place = 0; tasks = n; cores = c; length = s } ≡ plannedOf o
 unfolding plannedOf
 planned-written v o n c s e h = ap plannedOf (sym (ap plan.outcomeOf h) ∙ e)
@@ -80,7 +80,7 @@ plan-accepted v n c s out a h = rw h at a
 pub plan-refused : (w : Refusal) (k : ℕ) (x y : check.Outcome) → k ≡ numberOf w → k ≡ 0 → x ≡ y
 plan-refused w k x y e z = absurd (omega (arith, positive w))
 
--- list
+-- the listing's
 pub listed-written : (v : Listed) (o : list.Answer) (n : ℕ) → list.answerOf v ≡ o → v ≡ lists.Written n → record { refusal = 0; place = 0; length = n } ≡ listedOf o
 unfolding listedOf
 listed-written v o n e h = ap listedOf (sym (ap list.answerOf h) ∙ e)
@@ -89,7 +89,7 @@ pub listed-tight : (v : Listed) (o : list.Answer) → list.answerOf v ≡ o → 
 unfolding listedOf
 listed-tight v o e h = ap listedOf (sym (ap list.answerOf h) ∙ e)
 
--- dispatch: each answer of the code
+-- the dispatcher's, each answer of the code
 module _ (a : CodeAnswer) (s : Core) where
   pub moved-accepted : (m : StepAnswer) → a ≡ Accepted → m ≡ record { refusal = 0; place = 0; core = s } → m ≡ steppedOf (answerOf a) s
   unfolding steppedOf
@@ -124,7 +124,7 @@ module _ (a : CodeAnswer) (s : Core) where
     unfolding tickedOf
     ticked-accepted h = rw (← e, ← f, h)
 
--- a call's answer and state, handed on
+-- the same with the answer and the state that the definitions give
 pub stepped-on : (m : StepAnswer) (a : CodeAnswer) (s : Core) (o : Answer) (t : Core) → m ≡ steppedOf (answerOf a) s → answerOf a ≡ o → s ≡ t → m ≡ steppedOf o t
 stepped-on m a s o t e h k = e ∙ rw (h, k)
 
@@ -158,7 +158,7 @@ state (served j) s = refl
 state idle s = refl
 state (refused k p) s = refl
 
--- what the start promises, of the C answer
+-- what the start promises, in terms of the C answer
 pub kept-on : (bytes : List ℕ) (k : ℕ) (m : StepAnswer) (r : Step) → m ≡ steppedOf (answerOf (r .answer)) (r .core) → answerOf (r .answer) ≡ sheetAnswer (check.verdict bytes) k → Timely bytes k r → m .refusal ≡ 0 → (cs : List Call) → Kept bytes k (m .core) cs
 kept-on bytes k m r e h t z cs =
     let started : answerOf (r .answer) ≡ accepted = start-accepted (r .answer) (r .core) (ap isStart h ∙ start-answers (check.verdict bytes) k) (sym (ap (λ (x : StepAnswer). x .refusal) e) ∙ z) in

@@ -1,4 +1,5 @@
--- The C answers: `refusal` is 0 where nothing is refused, else document 01's number; fields that do not apply are 0.
+-- The C answers: `refusal` is 0 where nothing is refused, else the refusal's number (docs/SHEET.md, section 9); fields that do not apply
+-- are 0.
 use Rattle.checker.specs.Verdict as check
 use Rattle.planner.specs.Plan as plan
 use Rattle.listing.specs.Answers as list
@@ -10,6 +11,7 @@ use Rattle.capi.specs.declared.ListAnswer.{ListAnswer}
 use Rattle.capi.specs.declared.StepAnswer.{StepAnswer}
 use Rattle.capi.specs.declared.Ticked.{Ticked}
 
+-- what the checker, the planner and the listing answer
 unfoldable pub checkedOf : check.Outcome → Checked
 checkedOf (check.accepted n c) = record { refusal = 0; place = 0; tasks = n; cores = c }
 checkedOf (check.refused k p) = record { refusal = k; place = p; tasks = 0; cores = 0 }
@@ -22,14 +24,14 @@ unfoldable pub listedOf : list.Answer → ListAnswer
 listedOf (list.written n) = record { refusal = 0; place = 0; length = n }
 listedOf (list.refused k p) = record { refusal = k; place = p; length = 0 }
 
--- a start, a release or a finish, with the state that it hands back
+-- what a start, a release or a finish answers, with the state that it hands back
 unfoldable pub steppedOf : Answer → Core → StepAnswer
 steppedOf accepted s = record { refusal = 0; place = 0; core = s }
 steppedOf (served j) s = record { refusal = 0; place = 0; core = s }
 steppedOf idle s = record { refusal = 0; place = 0; core = s }
 steppedOf (refused k p) s = record { refusal = k; place = p; core = s }
 
--- a tick: the task that got it, or 255 where it was idle
+-- what a tick answers: `task` is the number of the task that got it, or 255 where it was idle
 unfoldable pub tickedOf : Answer → Core → Ticked
 tickedOf accepted s = record { refusal = 0; place = 0; task = 0; core = s }
 tickedOf (served j) s = record { refusal = 0; place = 0; task = j; core = s }

@@ -1,5 +1,5 @@
-// The C interface, declared in include/homvaits.h. Every call is total; `refusal` is 0 where nothing is refused, else document 01's
-// number; fields that do not apply are 0.
+// The C interface, declared in include/homvaits.h. Every call is total; `refusal` is 0 where nothing is refused, else the refusal's number
+// (docs/SHEET.md, section 9); fields that do not apply are 0.
 ghost use mathlib.Core.Path.{_≡_};
 ghost use mathlib.Core.List.{List};
 ghost use lib.ListN.{length, take};
@@ -156,7 +156,7 @@ fn hand_back(r: Step) -> StepAnswer
     }
 }
 
-// A start from an accepted sheet ends every job on time, whatever calls follow.
+// The core of an accepted start ends every job on time, whatever calls follow.
 #[no_mangle]
 pub extern "C" fn homvaits_start(sheet: &[u8], core: u64) -> StepAnswer
     ensures { λ r. ⌜ r ≡ steppedOf (sheetAnswer (verdict (now (sheet .entry))) core) (sheetState (verdict (now (sheet .entry))) (now (sheet .entry)) core) ⌝ }

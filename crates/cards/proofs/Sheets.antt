@@ -1,4 +1,4 @@
--- The sheet of a plan, as the program prints it.
+-- The sheet of a plan lies within the output from which the program prints it.
 -- Assumes nothing.
 use Prim.Native.Nat.{ℕ, _+_, _*_}
 use mathlib.Core.Path.{_≡_}

@@ -1,4 +1,4 @@
--- The bench cards and the listing of document 01 hold of the definitions.
+-- The bench cards and the listings of B and C hold of the definitions.
 -- Assumes nothing.
 use mathlib.Core.Path.{refl}
 use Rattle.cards.specs.Cards.{Cards}

@@ -1,4 +1,5 @@
--- Document 01, "Bench cards" and "The listing": what each card says of the definitions, and what the listing prints.
+-- The bench cards A to M, small inputs each with what it must give, and the listings of B and C, as one table about the definitions
+-- (docs/SHEET.md, sections 4 to 8).
 use Prim.Native.Nat.{ℕ}
 use Prim.Native.String.{String}
 use mathlib.Core.Path.{_≡_}
@@ -22,7 +23,7 @@ use Rattle.planner.specs.Plan as planner
 use Rattle.listing.specs.Words.{codes, lineFeed}
 use Rattle.listing.specs.Listing.{listingOf}
 
--- a header with n and c, and records of numbers below 256 on core 0
+-- a header with n and c, the record of a task on core 0, and that of a core, with numbers below 256
 abbrev pub header : (n c : ℕ) → List ℕ
 header n c = 0x54 ∷ 0x53 ∷ 0x48 ∷ 1 ∷ 0 ∷ n ∷ c ∷ 0 ∷ []
 
@@ -32,7 +33,7 @@ task p e M = p ∷ 0 ∷ e ∷ 0 ∷ 0 ∷ 0 ∷ M ∷ 0 ∷ 0 ∷ 0 ∷ []
 abbrev pub core : (Q D : ℕ) → List ℕ
 core Q D = Q ∷ 0 ∷ 0 ∷ 0 ∷ D ∷ 0 ∷ 0 ∷ 0 ∷ []
 
--- the listing's sheet with the last budget and the last factor given
+-- the sheet of card B, (3,1), (7,1) and (13,6) with pivot 3, divisor 1 and factors 1, 2 and 4, but with this last budget and last factor
 abbrev pub listed : (e M : ℕ) → List ℕ
 listed e M = header 3 1 ++ (task 3 1 1 ++ (task 7 1 2 ++ (task 13 e M ++ core 3 1)))
 
@@ -56,7 +57,7 @@ jobsI = job 5 1 ++ job 9 7
 abbrev pub jobsL : List ℕ
 jobsL = job 5 2 ++ job 7 4
 
--- what the planner answers with limit 1, start 0 and room for any sheet, and the sheet that it makes
+-- what the planner answers with limit 1, start 0 and an output of 712 bytes, and the sheet that it makes
 abbrev pub answer : List ℕ → planner.Outcome
 answer l = planOutcome l 1 0 712
 
@@ -71,6 +72,7 @@ pub record Plan : Type 0 where
   pub factors : List ℕ
   pub w : List ℕ
 
+-- the plan with this answer and these figures
 abbrev pub planWith : planner.Outcome → Figures → Plan
 planWith o f =
     record {
@@ -81,6 +83,7 @@ planWith o f =
       w = map (λ i. withinOn f 0 i) (numbers 0 (f .tasks));
     }
 
+-- the plan of a job list
 abbrev pub plan : List ℕ → Plan
 plan l = planWith (answer l) (figures (sheetOf l))
 
@@ -103,6 +106,7 @@ onBench jobs l = runFrom (listAnswer (scan (listRows 0 jobs))) (listState (scan 
 abbrev pub run : List Entry → Run
 run l = record { start = accepted; log = l }
 
+-- an accepted release of j, and a tick that goes to j
 abbrev pub releases : ℕ → Entry
 releases j = entry (release j) accepted
 
@@ -134,7 +138,7 @@ abbrev pub text : List String → List ℕ
 text [] = []
 text (s ∷ l) = codes s ++ (lineFeed ∷ text l)
 
--- "it prints exactly:"
+-- the listing of card B
 abbrev pub linesB : List String
 linesB =
     "TSH 1 tasks 3 cores 1"
@@ -144,11 +148,11 @@ linesB =
     ∷ "core 0 pivot 3 divisor 1 load 1000"
     ∷ []
 
--- "A refused sheet prints one line"
+-- the listing of card C
 abbrev pub linesC : List String
 linesC = "refused 14 place 64" ∷ []
 
--- the cards, and the listing of the sheets of B and C
+-- The cards. A to F are verdicts, G to I plans, J and K runs on the sheet of I, L a run on the bench, M a ring order; then the listings.
 pub record Cards : Type 0 where
   pub A : verdict (header 0 0) ≡ checker.accepted 0 0
   pub B : verdict (listed 6 4) ≡ checker.accepted 3 1

@@ -1,4 +1,4 @@
-// Runs the bench cards of document 01 through the code and prints one line for each, then the listing of the sheets of B and C.
+// Runs the bench cards (specs/Cards.antt) through the code and prints one line for each, then the listing of the sheets of B and C.
 ghost use Prim.Native.Nat.{_+_, _*_, _≤_};
 ghost use mathlib.Core.Path.{_≡_};
 ghost use lib.ListN.{length};
@@ -39,7 +39,7 @@ fn bare_header() -> [u8; 8]
     *b"TSH\x01\x00\x00\x00\x00"
 }
 
-// The listing's sheet with the last budget and the last factor given.
+// The sheet of card B with the last budget and the last factor given.
 fn listed(budget: u8, factor: u8) -> [u8; 46]
     ensures { λ r. ⌜ r ≡ listedSheet budget factor ⌝ }
 {
@@ -258,7 +258,7 @@ fn card_m() {
     print(b"\n");
 }
 
-// "The listing": the text of a sheet.
+// The listing of a sheet.
 fn print_listing(sheet: &[u8]) {
     let mut text = [0u8; 8192];
     let answer = listing::list_sheet(sheet, &mut text);

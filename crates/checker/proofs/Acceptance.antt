@@ -154,7 +154,7 @@ not-set : (r : List ℕ) (x : ℕ) → getD r x 0 ≡ 0 → isSet r x ≡ false
 unfolding isSet
 not-set r x e = rw e
 
--- a search that finds nothing, at its first step, and the other way round
+-- a search finds nothing exactly where the first does not pass and nothing is found after it
 step-none : (q : ℕ → Bool) (x : ℕ) (l : List ℕ) → find q (x ∷ l) ≡ none → (q x ≡ false) × (find q l ≡ none)
 unfolding find
 step-none q x l e = by (q x) refl

@@ -1,5 +1,5 @@
--- Document 01, "The sheet" and "When a core fits": what it means that a sheet is accepted, in the document's words; and what a
--- dispatcher may rely on for a core of an accepted sheet.
+-- What it means that a sheet is accepted, as a proposition (docs/SHEET.md, sections 2 to 4), and what a dispatcher may rely on for a core
+-- of an accepted sheet.
 use Prim.Native.Nat.{ℕ, _+_, _*_, _≤_, _<_}
 use mathlib.Core.Path.{_≡_}
 use mathlib.Core.List.{List, [], _∷_, _++_}
@@ -11,11 +11,11 @@ use Rattle.fit.specs.Priority.{Above}
 use Rattle.fit.specs.Fits.{Multiple, Multiples, load, exactLoad, fullLoad, within}
 use Rattle.fit.specs.Cores.{orderOn}
 
--- "Load at most one", of core k
+-- the load of core k is at most one
 unfoldable pub LoadAtMostOne : Figures → ℕ → Type 0
 LoadAtMostOne f k = exactLoad (f .budget) (f .factor) (f .divisor k) (orderOn f k) ≤ fullLoad (f .factor) (f .pivot k) (orderOn f k)
 
--- rules 1 to 5: mark, version, counts and length
+-- rules 1 to 5: the letters T S H, version 1, at most 64 tasks and 8 cores, and the length that the counts give
 pub record Framed (s : List ℕ) : Type 0 where
   pub mark : (getD s 0 0 ≡ 0x54) × (getD s 1 0 ≡ 0x53) × (getD s 2 0 ≡ 0x48)
   pub version : word s 3 ≡ 1
@@ -29,13 +29,13 @@ pub record SparesZero (s : List ℕ) : Type 0 where
   pub tasks : (i : ℕ) → i < taskCount s → getD (drop 8 s) (10 * i + 5) 0 ≡ 0
   pub cores : (k : ℕ) → k < coreCount s → (getD (drop 8 s) (10 * taskCount s + 8 * k + 2) 0 ≡ 0) × (getD (drop 8 s) (10 * taskCount s + 8 * k + 3) 0 ≡ 0)
 
--- rules 7 to 9: the tasks' own figures are in range
+-- rules 7 to 9: the period, budget and core of every task are in range
 pub record TasksInRange (f : Figures) : Type 0 where
   pub period : (i : ℕ) → i < f .tasks → (1 ≤ f .period i) × (f .period i ≤ 60000)
   pub budget : (i : ℕ) → i < f .tasks → (1 ≤ f .budget i) × (f .budget i ≤ f .period i)
   pub core : (i : ℕ) → i < f .tasks → f .core i < f .cores
 
--- rules 10 to 12: every core has a task, M, Q and D are in range, and every task is accelerated
+-- rules 10 to 12: every core has a task; M, Q and D are in range; no accelerated period is above its period
 pub record CoresInRange (f : Figures) : Type 0 where
   pub not-bare : (k : ℕ) → k < f .cores → (i : ℕ) × (i < f .tasks) × (f .core i ≡ k)
   pub factor : (i : ℕ) → i < f .tasks → (1 ≤ f .factor i) × (f .factor i ≤ 120000)
@@ -43,25 +43,26 @@ pub record CoresInRange (f : Figures) : Type 0 where
   pub divisor : (k : ℕ) → k < f .cores → (1 ≤ f .divisor k) × (f .divisor k ≤ 120000)
   pub accelerated : (i : ℕ) → i < f .tasks → f .pivot (f .core i) * f .factor i ≤ f .period i * f .divisor (f .core i)
 
--- rules 13 and 14: every core is simply periodic and its load is at most one
+-- rules 13 and 14: every core is simply periodic, and its load is at most one
 pub record CoresFit (f : Figures) : Type 0 where
   pub simply-periodic : (k : ℕ) → k < f .cores → Multiples (f .factor) 1 (orderOn f k)
   pub load : (k : ℕ) → k < f .cores → LoadAtMostOne f k
 
--- the figures are in range and every core fits
+-- rules 7 to 14 are kept
 pub record Fitting (f : Figures) : Type 0 where
   pub tasks : TasksInRange f
   pub cores : CoresInRange f
   pub fits : CoresFit f
 
--- the sheet has its form and its figures fit
+-- all rules are kept
 pub record Acceptable (s : List ℕ) : Type 0 where
   pub frame : Framed s
   pub spares : SparesZero s
   pub fitting : Fitting (figures s)
 
 -- What a dispatcher may rely on for a core with pivot Q and divisor D whose tasks in priority order are l; p, e and M are by task
--- number. The load is at most one at every level: of each task with those above it, at that task's own factor.
+-- number. Each factor divides all after it. The load is at most one at every level: of each task with those above it, at that task's
+-- own factor. And e ≤ w ≤ p for every task.
 pub record Schedulable (p e M : ℕ → ℕ) (Q D : ℕ) (l : List ℕ) : Type 0 where
   pub count : length l ≤ 64
   pub number : Each (λ i. i < 64) l

@@ -1,4 +1,4 @@
--- Document 01, "Refused sheets and calls": the rules 1 to 14 as one table, read from the top.
+-- The rules 1 to 14 as one table, read from the top (docs/SHEET.md, section 4).
 use Prim.Native.Nat.{ℕ, _+_, _*_}
 use mathlib.Core.Bool.{not, _||_}
 use mathlib.Core.Option.{Option, Option·map}
@@ -12,11 +12,11 @@ use Rattle.sheet.specs.Records.{Figures, figuresIn, taskCount, coreCount}
 use Rattle.fit.specs.Lists.{numbers, find, findSome}
 use Rattle.checker.specs.Tests.{isMarked, taskSpares, coreSpares, isSet, badCore, bare, badFactor, badPivot, stretchedAt, chainBreakOn, overloadedOn}
 
--- an offset in the part from byte 8 is 8 more in the sheet
+-- an offset in the part from byte 8, as one in the sheet
 unfoldable pub offset : Option ℕ → Option ℕ
 offset o = Option·map (λ a. 8 + a) o
 
--- Stub, Mark, Version, Count, Length
+-- 1 Stub, 2 Mark, 3 Version, 4 Count, 5 Length
 unfoldable pub frameRows : List ℕ → List Row
 frameRows s =
     1 at whole (ltb (length s) 8)
@@ -26,7 +26,7 @@ frameRows s =
     ∷ 5 at whole (not (eqb (length s) (8 + 10 * taskCount s + 8 * coreCount s)))
     ∷ []
 
--- Spare: byte 7 of the header, byte 5 of each task record, bytes 2 and 3 of each core record
+-- 6 Spare: byte 7 of the header, byte 5 of each task record, bytes 2 and 3 of each core record
 unfoldable pub spareRows : ℕ → ℕ → List ℕ → List ℕ → List Row
 spareRows n c s records =
     6 at find (isSet s) (7 ∷ [])
@@ -34,7 +34,7 @@ spareRows n c s records =
     ∷ 6 at offset (find (isSet records) (coreSpares (10 * n) c))
     ∷ []
 
--- Period, Budget, Core
+-- 7 Period, 8 Budget, 9 Core, each at the first task by number
 unfoldable pub taskRows : Figures → List Row
 taskRows f =
     7 at find (badPeriod (f .period)) (numbers 0 (f .tasks))
@@ -42,7 +42,7 @@ taskRows f =
     ∷ 9 at find (badCore (f .cores) (f .core)) (numbers 0 (f .tasks))
     ∷ []
 
--- Bare, Factor at tasks and then at cores, Stretch
+-- 10 Bare at the first core, 11 Factor at the first task and then at the first core, 12 Stretch at the first task, all by number
 unfoldable pub coreRows : Figures → List Row
 coreRows f =
     10 at core (find (bare (f .tasks) (f .core)) (numbers 0 (f .cores)))
@@ -51,15 +51,15 @@ coreRows f =
     ∷ 12 at find (stretchedAt f) (numbers 0 (f .tasks))
     ∷ []
 
--- Chain by core and inside a core by priority, Overload
+-- 13 Chain by core number and inside a core by priority, 14 Overload at the first core
 unfoldable pub fitRows : Figures → List Row
 fitRows f = 13 at findSome (chainBreakOn f) (numbers 0 (f .cores)) ∷ 14 at core (find (overloadedOn f) (numbers 0 (f .cores))) ∷ []
 
--- rules 7 to 14, over the figures
+-- rules 7 to 14
 unfoldable pub recordRows : Figures → List Row
 recordRows f = taskRows f ++ (coreRows f ++ fitRows f)
 
--- the whole table
+-- the whole table, of any bytes
 unfoldable pub rules : List ℕ → List Row
 rules s =
     frameRows s

@@ -15,7 +15,7 @@ use Rattle.checker.specs.declared.Judged.the-variants.{Chained, Unchaine
 use Rattle.checker.specs.Rules.{taskRows, coreRows}
 use Rattle.checker.specs.Tests.{badCore, bare, badFactor, badPivot, stretchedAt}
 
--- the rule that a test stands for
+-- the rule of a test is broken at a task or core
 abbrev pub broken : Test → Figures → ℕ → Bool
 broken Period f = badPeriod (f .period)
 broken Budget f = badBudget (f .period) (f .budget)
@@ -25,28 +25,29 @@ broken Factor f = badFactor (f .factor)
 broken Pivot f = badPivot (f .pivot) (f .divisor)
 broken Stretch f = stretchedAt f
 
--- a core whose chain is broken at a task, or is whole and over or not
+-- rules 13 and 14 at a core: its chain is broken at a task, or is whole, and then the core is over or not
 unfoldable pub judged : Option ℕ → Bool → Judged
 judged none over = Chained over
 judged (some i) over = Unchained i
 
--- the first core that is over, where 255 stands for none
+-- the first core that is over, of those before core k (`found`) and core k; 255 stands for none
 unfoldable pub firstOver : ℕ → ℕ → Bool → ℕ
 firstOver found k over = cond over (cond (eqb found 255) k found) found
 
--- the rules at one task, and rules 7 to 12 of the table
+-- task i keeps rules 7, 8, 9, 11 and 12
 unfoldable pub soundAt : Figures → ℕ → Bool
 soundAt f i =
     not ((badPeriod (f .period) i || badBudget (f .period) (f .budget) i || (badCore (f .cores) (f .core) i || badFactor (f .factor) i)) || stretchedAt f i)
 
+-- rules 7 to 12 of the table
 unfoldable pub earlyRows : Figures → List Row
 earlyRows f = taskRows f ++ coreRows f
 
--- load above one, by the load that the code adds up
+-- load above one, by the sum that the code makes with last factor L
 unfoldable pub overInRange : (ℕ → ℕ) → (ℕ → ℕ) → ℕ → ℕ → ℕ → List ℕ → Bool
 overInRange e M Q D L l = ltb (Q * L) (loadInRange e M D L l)
 
--- what rule 14's sum needs of core k: at most 64 tasks, and D and every M in range
+-- what rule 14's sum needs of core k: at most 64 tasks, D and every M at most 120,000
 pub record InRange (f : Figures) (k : ℕ) : Type 0 where
   pub count : f .tasks ≤ 64
   pub factors : (i : ℕ) → i < f .tasks → f .factor i ≤ 120000

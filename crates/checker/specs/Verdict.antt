@@ -1,4 +1,4 @@
--- Document 01: the checker "answers the first that applies, or accepted with n and c."
+-- The verdict on any bytes (docs/SHEET.md, section 4).
 use Prim.Native.Nat.{ℕ}
 use mathlib.Core.Option.{Option, none, some}
 use mathlib.Core.List.{List}
@@ -9,20 +9,21 @@ use Rattle.checker.specs.Rules.{rules}
 use Rattle.checker.specs.declared.Verdict.{Verdict}
 use Rattle.checker.specs.declared.Verdict.the-variants.{Accepted, Refused as Rejected}
 
--- what the checker answers
+-- accepted with n and c, or refused with a number and a place
 pub data Outcome : Type 0 where
   accepted : ℕ → ℕ → Outcome
   refused : ℕ → ℕ → Outcome
 
+-- what the table found, as an outcome
 unfoldable pub outcome : Option Refused → ℕ → ℕ → Outcome
 outcome none n c = accepted n c
 outcome (some r) n c = refused (r .number) (r .place)
 
--- the verdict of any bytes
+-- refused by the first rule of the table that is broken, else accepted with the counts of the header
 unfoldable pub verdict : List ℕ → Outcome
 verdict s = outcome (scan (rules s)) (taskCount s) (coreCount s)
 
--- the code's answer as an outcome: a word is its number in document 01
+-- the code's answer as an outcome: a word stands for its number
 abbrev pub outcomeOf : Verdict → Outcome
 outcomeOf (Accepted n c) = accepted n c
 outcomeOf (Rejected w p) = refused (numberOf w) p

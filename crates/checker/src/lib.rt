@@ -1,4 +1,4 @@
-// The checker: rules 1 to 14 of document 01 over any bytes.
+// The checker: rules 1 to 14 over any bytes (docs/SHEET.md, section 4).
 ghost use mathlib.Core.Path.{_≡_};
 ghost use mathlib.Core.Bool.{true, not, _||_};
 ghost use Prim.Native.Nat.{ℕ, _+_, _*_, _<_, _≤_, min};
@@ -37,7 +37,7 @@ enum Test {
     Stretch,
 }
 
-// What a core is by rules 13 and 14.
+// What rules 13 and 14 say of a core: its chain is whole, and its load is over one or not, or its chain is broken at a task.
 enum Judged {
     Chained { over: bool },
     Unchained(u8),
@@ -129,7 +129,7 @@ fn first(test: Test, tasks: &[u8], cores: &[u8], n: u8, c: u8, end: u8) -> Found
     Found::Nothing
 }
 
-// Rules 1 to 5, each over the whole sheet.
+// Rules 1 to 5.
 
 fn is_stub(sheet: &[u8]) -> bool
     ensures { λ r. ⌜ r ≡ ltb (length (now (sheet .entry))) 8 ⌝ }
@@ -304,7 +304,7 @@ fn judge(periods: &[u16], tasks: &[u8], cores: &[u8], n: u8, c: u8, k: u8) -> Ju
     }
 }
 
-// The first core that is over; 255 stands for none.
+// The first core that is over, of those before core k (`found`) and core k; 255 stands for none.
 fn first_over(found: u8, k: u8, over: bool) -> u8
     ensures { λ r. ⌜ r ≡ firstOver found k over ⌝ }
 {
@@ -365,7 +365,7 @@ fn all_sound(tasks: &[u8], cores: &[u8], n: u8, c: u8) -> bool
     true
 }
 
-// Rules 10 and 11 at the cores, where the tasks keep their rules.
+// Rules 10 to 12 where every task keeps its rules: 10 and 11 at the cores are left.
 fn bare_rules(tasks: &[u8], cores: &[u8], n: u8, c: u8) -> Finding
     requires { ⌜ ((i : ℕ) → i < n → soundAt (figuresOf n c (now tasks) (now cores)) i ≡ true) ⌝ }
     ensures { λ r. ⌜ findingOf r ≡ scan (coreRows (figuresOf n c (now (tasks .entry)) (now (cores .entry)))) ⌝ }
@@ -436,7 +436,7 @@ fn answer(found: Finding, n: u8, c: u8) -> Verdict
     }
 }
 
-// Checks a sheet: any bytes get the answer of document 01.
+// Checks a sheet: any bytes are refused by the first rule that they break, or accepted with their counts.
 pub fn check(sheet: &[u8]) -> Verdict
     ensures { λ r. ⌜ outcomeOf r ≡ verdict (now (sheet .entry)) ⌝ }
 {

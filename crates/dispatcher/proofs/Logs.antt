@@ -34,7 +34,7 @@ refused-unaltered c s n p e = by (foreign s) e
     by true x = refl
     by false x = ap (withTasks s) (refused-kept c (tasksOf s) n p x) ∙ same-tasks s
 
--- one call on a state in form: what its tasks answer, and its tasks as they hand themselves on
+-- One call on a state in form: it answers what the list of its tasks answers, and the tasks of the next state are the next list.
 pub ask-form : (c : Call) (s : Core) → InForm s → ask c s ≡ answer c (tasksOf s)
 unfolding ask
 ask-form c s f = rw (form-foreign s f)
@@ -62,7 +62,7 @@ unfolding log
 log-form [] s places f = refl
 log-form (c ∷ cs) s places f = rw (ask-form c s f) (ap (λ l. entry c (answer c (tasksOf s)) ∷ l) (log-form cs (step c s) (step-places c s places f) (step-form c s places f) ∙ ap (λ l. log answer next l cs) (step-tasks c s places f)))
 
--- and so is the state after it
+-- and the tasks of the state after it are the list after it
 pub run-form : (cs : List Call) (s : Core) → length (s .tasks) ≡ 64 → InForm s → tasksOf (run step s cs) ≡ run next (tasksOf s) cs
 unfolding run
 run-form [] s places f = refl

@@ -103,7 +103,7 @@ module _ (s : Core) (b : Bool) (e : b ≡ foreign s) (x : b ≡ false) where
   pub place-room : {i : ℕ} → i < s .count → i < 64
   place-room h = omega (arith, count-max)
 
-  -- its offset in bytes fits
+  -- the offset in bytes of a task of 10 bytes fits in 64 bits
   pub offset-fits : {i : ℕ} → i < s .count → Fits w64 (i * 10)
   offset-fits h = omega (arith, count-max)
 

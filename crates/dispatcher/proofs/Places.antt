@@ -1,4 +1,4 @@
--- The tests of a search for a task, from what the code compares.
+-- The search for a task in a state, and its tests as the code compares.
 -- Assumes nothing.
 use Prim.Native.Nat.{ℕ, _+_, _≤_, _<_}
 use mathlib.Core.Path.{_≡_, sym, _∙_}
@@ -37,6 +37,6 @@ pub not-named : (j : ℕ) (t : Task) → (t .number ≡ j → ⊥) → named j t
 unfolding named
 not-named j t h = ne-eqb (t .number) j h
 
--- an array of structs is as long as the array of what its elements hold
+-- a list is as long as what a function makes of each of its elements
 pub array-length : {A B : Type 0} (f : A → B) (l : List A) (n : ℕ) → length (map f l) ≡ n → length l ≡ n
 array-length f l n h = sym (length-map l f) ∙ h

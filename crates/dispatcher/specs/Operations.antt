@@ -1,4 +1,4 @@
--- Document 01, "The dispatcher": release, finish and tick of a state. "All check 21 first".
+-- Release, finish and tick of a state; each looks for 21 Foreign first (docs/SHEET.md, section 6).
 use mathlib.Core.Path.{_≡_}
 use mathlib.Core.Bool.{cond}
 use Rattle.sheet.specs.Refusals.{numberOf}
@@ -9,7 +9,7 @@ use Rattle.dispatcher.specs.declared.Answer.{Answer as CodeAnswer}
 use Rattle.dispatcher.specs.declared.Answer.the-variants.{Accepted, Served, Idle, Refused}
 use Rattle.dispatcher.specs.State.{tasksOf, withTasks, foreign}
 
--- the code's answer as an answer of document 01: a word is its number
+-- the code's answer as an answer of the definitions: a word stands for its number
 abbrev pub answerOf : CodeAnswer → Answer
 answerOf Accepted = accepted
 answerOf (Served j) = served j

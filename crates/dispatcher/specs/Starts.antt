@@ -1,5 +1,4 @@
--- Document 01, "The dispatcher": the two starts. "A fresh state has every age equal to the period, nothing left, and zeros in all places
--- past its tasks. A refused start hands back the fresh state of an empty job list."
+-- The two starts, from a sheet and from a job list (docs/SHEET.md, section 6). A refused start hands back the state without tasks.
 use Prim.Native.Nat.{ℕ, _-_}
 use mathlib.Core.Path.{_≡_}
 use mathlib.Core.Bool.{cond}
@@ -36,7 +35,7 @@ freshTasks p e l = map (λ i. freshTask (p i) (e i) i) l
 unfoldable pub stateOf : List Task → Core
 stateOf l = record { count = length l; tasks = l ++ replicate (64 - length l) noTask }
 
--- "It is started from a sheet and a core number (refusals 1 to 14, then 9 with place 0 if there is no such core)"
+-- what a start of core k of a sheet answers: the refusal of the sheet (1 to 14), then 9 with place 0 where there is no such core
 unfoldable pub sheetAnswer : verdict.Outcome → ℕ → Answer
 sheetAnswer (verdict.accepted n c) k = cond (ltb k c) accepted (refused 9 0)
 sheetAnswer (verdict.refused w p) k = refused w p
@@ -55,7 +54,7 @@ pub record SheetStart (s : List ℕ) (k : ℕ) (r : Step) : Type 0 where
   pub answer : answerOf (r .answer) ≡ sheetAnswer (verdict.verdict s) k
   pub core : r .core ≡ sheetState (verdict.verdict s) s k
 
--- "or on the bench from a job list without any sheet (5, 4, 7, 8)"; there is no limit of cores
+-- what a start from a job list answers: the refusal of the list (5, 4, 7, 8), if any
 unfoldable pub listAnswer : Option Refused → Answer
 listAnswer none = accepted
 listAnswer (some r) = refused (r .number) (r .place)
@@ -66,12 +65,12 @@ unfoldable pub listState : Option Refused → List ℕ → Core
 listState none l = stateOf (freshTasks (jobPeriod l) (jobBudget l) (orderBy Period (jobPeriod l) (jobCount l)))
 listState (some r) l = stateOf []
 
--- what a start from a job list promises
+-- what a start from a job list promises; there is no core limit, for which 0 stands
 pub record ListStart (l : List ℕ) (r : Step) : Type 0 where
   pub answer : answerOf (r .answer) ≡ listAnswer (scan (listRows 0 l))
   pub core : r .core ≡ listState (scan (listRows 0 l)) l
 
--- what the state of an accepted start of either kind is: of 64 places, in form, every task fresh
+-- what the state of an accepted start of either kind is: it has 64 places, is in form, and every task is fresh
 pub record FreshCore (s : Core) : Type 0 where
   pub places : length (s .tasks) ≡ 64
   pub form : InForm s

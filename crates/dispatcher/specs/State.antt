@@ -1,4 +1,4 @@
--- Document 01, "The dispatcher": the state of a core and its own form, whose breach is 21 Foreign.
+-- The state of a core and its form, whose breach is 21 Foreign (docs/SHEET.md, section 6).
 use Prim.Native.Nat.{_≤_}
 use mathlib.Core.Bool.{Bool, true, not, _&&_, _||_}
 use mathlib.Core.List.{List, [], _∷_, _++_}
@@ -17,13 +17,13 @@ tasksOf s = take (s .count) (s .tasks)
 unfoldable pub withTasks : Core → List Task → Core
 withTasks s l = record { count = s .count; tasks = l ++ drop (s .count) (s .tasks) }
 
--- The form of a state: at most 64 tasks, and these in the form of timing's `Form`: numbers at most 63 and none twice, p and e in range,
--- age at most p, ticks left at most e, in priority order.
+-- A state is in form: it has at most 64 tasks, and they are in timing's `Form`, that is, each task's fields are in range, no number stands
+-- twice, and the tasks are in priority order.
 pub record InForm (s : Core) : Type 0 where
   pub count : s .count ≤ 64
   pub form : Form (tasksOf s)
 
--- The same as a test, in the words of document 01. A task's own fields:
+-- The same as a test, from here on. A task's own fields are in range:
 abbrev pub sound : Task → Bool
 sound t =
     leb (t .number) 63 && (leb 1 (t .period) && (leb (t .period) 60000 && (leb 1 (t .budget) && (leb (t .budget) (t .period) && (leb (t .age) (t .period) && leb (t .left) (t .budget))))))
@@ -32,7 +32,7 @@ sound t =
 unfoldable pub distinct : Task → Task → Bool
 distinct t u = not (eqb (t .number) (u .number))
 
--- the priority of one task over another
+-- task t has priority over task u
 unfoldable pub above : Task → Task → Bool
 above t u = higher (t .period) (t .number) (u .period) (u .number)
 
@@ -46,7 +46,6 @@ unfoldable pub eachPair : (Task → Task → Bool) → List Task → Bool
 eachPair q [] = true
 eachPair q (t ∷ s) = each (q t) s && eachPair q s
 
--- 21 Foreign: "more than 64 tasks, numbers repeated or above 63, p or e out of range, age above p, ticks left above e, or tasks not in
--- priority order"
+-- 21 Foreign: there are more than 64 tasks, a task's field is out of range, a number stands twice, or the tasks are not in priority order
 unfoldable pub foreign : Core → Bool
 foreign s = ltb 64 (s .count) || not (each sound (tasksOf s) && (eachPair distinct (tasksOf s) && eachPair above (tasksOf s)))

@@ -1,4 +1,4 @@
-// The dispatcher of one core: its state, and release, finish and tick on it.
+// The dispatcher of one core: its state, the two starts, and release, finish and tick (docs/SHEET.md, sections 6 and 7).
 ghost use mathlib.Core.Path.{_≡_};
 ghost use Prim.Native.Nat.{_+_, _*_, _<_, _≤_};
 ghost use mathlib.Core.List.{[], map};
@@ -31,7 +31,7 @@ pub struct Core {
     pub tasks: [Task; 64],
 }
 
-// What an operation answers: a release or a finish is accepted, a tick goes to a task's number or is idle, a call is refused.
+// What a call answers: a start, a release or a finish is accepted, a tick goes to the task with a number or is idle, a call is refused.
 pub enum Answer {
     Accepted,
     Served(u8),
@@ -45,7 +45,7 @@ enum Spot {
     Refused(Refusal),
 }
 
-// An operation's answer and the state that it hands back.
+// The answer of a start or an operation, and the state that it hands back.
 pub struct Step {
     pub answer: Answer,
     pub core: Core,
@@ -330,7 +330,7 @@ pub fn start_list(list: &[u8]) -> Step
 }
 
 impl Core {
-    // A job of the task begins: 17, 18, 19, else age 0 and ticks left e.
+    // A job of the task is released: 21, 17, 18, 19, else age 0 and ticks left e.
     pub fn release(self, number: u64) -> Step
         ensures { λ r. ⌜ Operation (release number) self r ⌝ }
     {
@@ -350,7 +350,7 @@ impl Core {
         }
     }
 
-    // The task's job ends: 17, 20, else ticks left 0.
+    // The task's job is ended early: 21, 17, 20, else ticks left 0.
     pub fn finish(self, number: u64) -> Step
         ensures { λ r. ⌜ Operation (finish number) self r ⌝ }
     {
@@ -367,7 +367,7 @@ impl Core {
         }
     }
 
-    // The first pending task loses one tick of its job, and every age rises by one.
+    // One tick passes: 21, else the first pending task has one tick less left, and every age rises by one, up to its period.
     pub fn tick(self) -> Step
         ensures { λ r. ⌜ Operation tick self r ⌝ }
     {

@@ -15,7 +15,7 @@ times-fits x b h k = let m : x * b ≤ 32400000000 * 3 = mul-le-mul h k in recor
 twice : (x b : ℕ) → 2 ≤ b → x * 2 ≤ x * b
 twice x b h = mul-le-mul-left x h
 
--- m is the power sought or a smaller one, and reaches r
+-- m is a power of b that is at most the power sought, and r is p × m
 pub record Reach (b q p m r : ℕ) : Type 0 where
   pub exponent : ℕ
   pub power : m ≡ b ^ exponent

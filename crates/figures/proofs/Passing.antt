@@ -60,7 +60,7 @@ each-pivot P c ps f = from 0 (length ps) (λ i h. f i (omega (arith, zero-add (l
     from k zero g = tt
     from k (suc n) g = (g k (omega arith), from (suc k) n (λ i h. g i (omega arith)))
 
--- the figures of a core satisfy rules 11 to 14 of document 01
+-- tasks l on a core with pivot Q and divisor D keep rules 11 to 14
 pub record Accepted (p e M : ℕ → ℕ) (Q D : ℕ) (l : List ℕ) : Type 0 where
   pub pivot : (1 ≤ Q) × (Q ≤ 60000)
   pub divisor : (1 ≤ D) × (D < 120000)
@@ -69,7 +69,7 @@ pub record Accepted (p e M : ℕ → ℕ) (Q D : ℕ) (l : List ℕ) : Type 0 wh
   pub chained : Multiples M 1 l
   pub loaded : overloaded e M Q D l ≡ false
 
--- what holds at each place of a list holds for each of it
+-- what holds at each place of a list holds of each in it
 each-place : (P : ℕ → Type 0) (l : List ℕ) → ((j : ℕ) → j < length l → P (at l j)) → Each P l
 unfolding Each
 each-place P [] f = tt

@@ -14,7 +14,7 @@ module _ (ps : List ℕ) (c : ℕ) (r : Ready ps c) where
   pub periods : Rising 1 ps
   periods = rising-test 1 ps (r .order)
 
-  -- at any place, at the first, at the pivot's
+  -- 1 to 60,000: at any place, at the first, at the pivot's
   pub period-low : (x i : ℕ) → i < length ps → x ≡ at ps i → 1 ≤ x
   period-low x i h e = rw e (rising-at 1 ps periods i h .0)
 

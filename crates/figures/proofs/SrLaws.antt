@@ -1,4 +1,5 @@
--- Sr on any base from 2 up: its figures are sound, and a multiplier is the largest power whose exponent may be negative.
+-- Sr on any base from 2 up: its figures are sound, and each multiplier is the largest power, its exponent negative or not, that keeps the
+-- accelerated period at or below the period.
 -- Assumes nothing.
 use Prim.Native.Nat.{ℕ, zero, suc, _+_, _-_, _*_, _^_, _≤_, _<_, zero-le}
 use mathlib.Core.Path.{_≡_, refl, sym, ap, _∙_}
@@ -117,7 +118,7 @@ module _ (b : ℕ) (two : 2 ≤ b) where
           let fit : q * b ^ suc e * b ^ k ≤ p * b ^ y * b ^ k = omega (arith, mul-assoc q (b ^ suc e) (b ^ k), mul-assoc q (b ^ j) (b ^ y), mul-right-comm p (b ^ k) (b ^ y)) in
           absurd (omega (arith, m .largest (suc e) (rw (d .power) (le-of-mul-le-mul-right fit (power-positive b two k)))))
 
-  -- "Each task has the largest power .., whose exponent may be negative, with Q × power ≤ p as its multiplier."
+  -- the multiplier of every task is the largest power with Q × it ≤ p
   pub sr-multiplier : (ps : List ℕ) (i : ℕ) → Rising 1 ps → i < length ps → (k : ℕ) → k < length ps → Multiplier b (sr b ps i .Q) (at ps k) (at (sr b ps i .factors) k) (sr b ps i .D)
   unfolding sr
   sr-multiplier ps i r h k g =

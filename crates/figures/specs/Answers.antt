@@ -1,4 +1,4 @@
--- The figures of a core as the code hands them out.
+-- The figures of a core as the code hands them out (docs/SHEET.md, section 5).
 use mathlib.Core.Bool.{true, false}
 use mathlib.Core.Option.{Option, none, some}
 use Rattle.fit.specs.Lists.{padded}
@@ -6,6 +6,7 @@ use Rattle.figures.specs.declared.CoreFigures.{CoreFigures}
 use Rattle.figures.specs.declared.Outcome.{Outcome}
 use Rattle.figures.specs.Constructions.{Acceleration, noFigures}
 
+-- pivot and divisor, and the factors in priority order with zeros past them
 unfoldable pub written : Acceleration → CoreFigures
 written a = record { pivot = a .Q; divisor = a .D; factors = padded (a .factors) }
 

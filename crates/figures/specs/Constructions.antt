@@ -1,4 +1,4 @@
--- Document 01, "The planner": Sr and DCT. A construction takes the periods of a core's tasks in priority order and the place of its pivot.
+-- Sr and DCT (docs/SHEET.md, section 5). A construction takes the periods of a core's tasks in priority order and the place of its pivot.
 use Prim.Native.Nat.{ℕ, zero, suc, _+_, _-_, _*_, _/_, _^_}
 use mathlib.Core.Path.{_≡_}
 use mathlib.Core.Bool.{cond}
@@ -26,7 +26,7 @@ unfoldable pub least : ℕ → ℕ → ℕ → ℕ → ℕ → ℕ
 least b q p zero m = m
 least b q p (suc n) m = let more = least b q p n (m * b) in cond (leb q (p * m)) m more
 
--- the least power of b with q ≤ p × it, which q steps reach
+-- the least power of b with q ≤ p × it; q steps are enough
 unfoldable pub leastPower : ℕ → ℕ → ℕ → ℕ
 leastPower b q p = least b q p q 1
 
@@ -35,12 +35,12 @@ unfoldable pub largest : ℕ → ℕ → ℕ → ℕ → ℕ → ℕ
 largest b q x zero m = m
 largest b q x (suc n) m = let more = largest b q x n (m * b) in cond (leb (q * (m * b)) x) more m
 
--- the largest power of b with q × it ≤ x, which x steps reach
+-- the largest power of b with q × it ≤ x; x steps are enough
 unfoldable pub largestPower : ℕ → ℕ → ℕ → ℕ
 largestPower b q x = largest b q x x 1
 
--- "Sr (base 2): Q is the pivot's period. Each task has the largest power of two, whose exponent may be negative, with Q × power ≤ p as its multiplier."
--- Here on any base b. A multiplier is written M / D, with one D for all: the least power with Q ≤ p × D at the first task, whose multiplier is 1 / D.
+-- Sr on base b. Q is the pivot's period. A task with period p has the accelerated period Q × M / D, where M / D is the largest power of b,
+-- its exponent negative or not, with Q × M / D ≤ p. D is one for all: the least power with Q ≤ p × D at the first task, where M is then 1.
 unfoldable pub sr : ℕ → List ℕ → ℕ → Acceleration
 sr b ps i =
     let q = at ps i in
@@ -51,25 +51,28 @@ sr b ps i =
 unfoldable pub ceiling : ℕ → ℕ → ℕ
 ceiling a b = (a + b - 1) / b
 
--- "Going down, it is the next one divided by ceil(next / p)": where the next accelerated period is Q / d, this one is Q / (d × c).
+-- DCT, one step to a shorter period p: from the accelerated period x of the task after it, x divided by the least whole number that is not
+-- below x / p. An accelerated period is Q / d, and this gives d from that of the task after it.
 unfoldable pub down : ℕ → ℕ → ℕ → ℕ
 down q p d = d * ceiling q (d * p)
 
--- the d of the tasks before the pivot, and of the pivot, which is 1
+-- the d of each task before the pivot, and of the pivot, which is 1
 unfoldable pub downs : ℕ → List ℕ → List ℕ
 downs q [] = 1 ∷ []
 downs q (p ∷ ps) = let next = downs q ps in down q p (at next 0) ∷ next
 
--- "going up in priority order from the pivot, each accelerated period is the previous one × floor(p / previous)": the previous one is Q × m.
+-- DCT, one step to a longer period p: from the accelerated period x of the task before it, x times the whole part of p / x. An accelerated
+-- period is Q × m, and this gives m from that of the task before it.
 unfoldable pub up : ℕ → ℕ → ℕ → ℕ
 up q p m = m * (p / (q * m))
 
--- the m of the tasks after one whose m is given
+-- the m of each task after one whose m is given
 unfoldable pub ups : ℕ → ℕ → List ℕ → List ℕ
 ups q m [] = []
 ups q m (p ∷ ps) = let next = up q p m in next ∷ ups q next ps
 
--- DCT: "the first task by priority has factor 1; D is Q over its accelerated period", which is the first d.
+-- DCT. Q is the pivot's period, and D is the first d, so that the first factor is 1. As Q × M / D, Q / d has M = D / d, and Q × m has
+-- M = D × m.
 unfoldable pub dct : List ℕ → ℕ → Acceleration
 dct ps i =
     let q = at ps i in

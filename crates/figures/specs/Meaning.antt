@@ -1,4 +1,4 @@
--- Document 01, "The planner": what Sr, DCT and the written form mean over exact fractions. An accelerated period is the fraction Q × M / D.
+-- What Sr, DCT and the written form mean over exact fractions (docs/SHEET.md, section 5). An accelerated period is Q × M / D.
 use Prim.Native.Nat.{ℕ, suc, _*_, _/_, _^_, _≤_, _<_}
 use mathlib.Core.Path.{_≡_}
 use mathlib.Core.List.{List, [], _∷_}
@@ -12,36 +12,36 @@ unfoldable pub Rising : ℕ → List ℕ → Type 0
 Rising a [] = Unit {0}
 Rising a (p ∷ ps) = (a ≤ p) × (p ≤ 60000) × Rising p ps
 
--- "Each task has the largest power of two, whose exponent may be negative, with Q × power ≤ p as its multiplier." On any base b:
--- M / D is a power with Q × M / D ≤ p, and every power x / y with Q × x / y ≤ p is at most M / D.
+-- Sr, at a task with period p: M / D is a power of b, its exponent negative or not, with Q × M / D ≤ p, and the largest: every power
+-- b ^ j / b ^ k with Q × b ^ j / b ^ k ≤ p is at most M / D.
 pub record Multiplier (b Q p M D : ℕ) : Type 0 where
   pub factor : Power b M
   pub divisor : Power b D
   pub fits : Q * M ≤ p * D
   pub largest : (j k : ℕ) → Q * b ^ j ≤ p * b ^ k → b ^ j * D ≤ M * b ^ k
 
--- "DCT: going up in priority order from the pivot, each accelerated period is the previous one × floor(p / previous). Going down, it is
--- the next one divided by ceil(next / p)." The pivot is at place i, where the accelerated period is Q.
+-- DCT with the pivot at place i, where the accelerated period is Q. After it each accelerated period is the one before, x, times p / x
+-- rounded down; before it each is the one after, x, divided by x / p rounded up; p is the task's own period.
 pub record DctPeriods (ps : List ℕ) (i Q D : ℕ) (M : ℕ → ℕ) : Type 0 where
   pub pivot : M i ≡ D
   pub up : (k : ℕ) → i ≤ k → suc k < length ps → M (suc k) ≡ M k * (at ps (suc k) * D / (Q * M k))
   pub down : (k : ℕ) → k < i → M (suc k) ≡ M k * ceiling (Q * M (suc k)) (at ps k * D)
 
--- a factor after d: Q × M ≤ p × D, a multiple of d, at least 1
+-- m is a factor for period p, after a factor d: Q × m ≤ p × D, m is a multiple of d and at least 1
 pub record Factor (Q D d p m : ℕ) : Type 0 where
   pub accelerated : Q * m ≤ p * D
   pub multiple : Multiple d m
   pub positive : 0 < m
 
--- factors of tasks with these periods, after a factor d
+-- a factor for each of these periods, the first after a factor d
 unfoldable pub Factors : ℕ → ℕ → ℕ → List ℕ → List ℕ → Type 0
 Factors Q D d [] [] = Unit {0}
 Factors Q D d [] (m ∷ ms) = ⊥
 Factors Q D d (p ∷ ps) [] = ⊥
 Factors Q D d (p ∷ ps) (m ∷ ms) = Factor Q D d p m × Factors Q D m ps ms
 
--- "Written form: the first task by priority has factor 1 .. Both constructions keep D and M under 120,000." Every task is accelerated, the
--- factors are a chain from 1, and D is below b × Q: on base 2 it is below 120,000, and so is each M.
+-- The written form: Q is in range, the first task has factor 1, no accelerated period is above its period, the factors are a chain, and D
+-- is below b × Q. So D is below 120,000 on base 2, and so is each M.
 pub record Sound (b : ℕ) (ps : List ℕ) (a : Acceleration) : Type 0 where
   pub pivot : (1 ≤ a .Q) × (a .Q ≤ 60000)
   pub divisor : (1 ≤ a .D) × (a .D < b * a .Q)

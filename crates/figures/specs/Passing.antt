@@ -1,4 +1,4 @@
--- Document 01, "The planner": the load test, the order in which constructions are tried, and the first that passes.
+-- The load test, the order in which constructions are tried, and the first that passes (docs/SHEET.md, section 5).
 use Prim.Native.Nat.{ℕ}
 use mathlib.Core.Bool.{Bool, true, cond, not, _&&_}
 use mathlib.Core.Option.{Option, none, some}
@@ -9,7 +9,7 @@ use Rattle.fit.specs.Lists.{numbers, at}
 use Rattle.fit.specs.Fits.{overloaded}
 use Rattle.figures.specs.Constructions.{Acceleration, sr, dct}
 
--- "load at most one": the tasks with these budgets are named by their places in priority order.
+-- The load of tasks with these budgets is at most one. A task is named by its place in priority order.
 unfoldable pub passes : List ℕ → Acceleration → Bool
 passes es a = not (overloaded (at es) (at (a .factors)) (a .Q) (a .D) (numbers 0 (length es)))
 
@@ -22,7 +22,7 @@ first es (a ∷ l) = let later = first es l in cond (passes es a) (some a) later
 unfoldable pub eachPivot : (List ℕ → ℕ → Acceleration) → List ℕ → List Acceleration
 eachPivot construction ps = map (construction ps) (numbers 0 (length ps))
 
--- "tried in this order: Sr with each task as pivot by priority, then DCT likewise"; Sr is on base 2
+-- the trials in their order: Sr on base 2 with each task as pivot by priority, then DCT with each
 unfoldable pub trials : List ℕ → List Acceleration
 trials ps = eachPivot (sr 2) ps ++ eachPivot dct ps
 
@@ -31,11 +31,10 @@ unfoldable pub rising : ℕ → List ℕ → Bool
 rising a [] = true
 rising a (p ∷ ps) = leb a p && leb p 60000 && rising p ps
 
--- at most 64 tasks, each with a period of 1 to 60,000 and a budget, in priority order
+-- a set of tasks: at most 64, each with a period of 1 to 60,000 and a budget, no period below the one before it
 unfoldable pub taskSet : List ℕ → List ℕ → Bool
 taskSet ps es = leb (length ps) 64 && eqb (length ps) (length es) && rising 1 ps
 
--- "A set passes if one of these has load at most one .. The first that passes gives the core's figures."
--- Anything but a set of tasks does not pass.
+-- The figures of the first trial that passes; a set passes if there is one. Anything but a set of tasks does not pass.
 unfoldable pub firstPassing : List ℕ → List ℕ → Option Acceleration
 firstPassing ps es = cond (taskSet ps es) (first es (trials ps)) none

@@ -23,11 +23,11 @@ unfoldable pub construction : Kind → List ℕ → ℕ → Acceleration
 construction Sr = sr 2
 construction Dct = dct
 
--- what figures say of tasks that are named by their places
+-- the code's figures as an acceleration, which has zeros past the factors
 unfoldable pub readBack : CoreFigures → Acceleration
 readBack f = record { Q = f .pivot; D = f .divisor; factors = f .factors }
 
--- the figures of 1 to 64 tasks are in range
+-- n is 1 to 64, and the figures of n tasks are in range
 pub record Usable (f : CoreFigures) (n : ℕ) : Type 0 where
   pub some : 1 ≤ n
   pub few : n ≤ 64

@@ -1,4 +1,4 @@
-// The figures of a core: Sr and DCT for a pivot, the load test, and the first construction that passes.
+// The figures of a core: Sr and DCT for a pivot, the load test, and the first construction that passes (docs/SHEET.md, section 5).
 // Periods and budgets are those of the core's tasks in priority order.
 ghost use mathlib.Core.Path.{_≡_};
 ghost use Prim.Native.Nat.{ℕ, _+_, _*_, _/_, _<_, _≤_};
@@ -19,7 +19,7 @@ pub struct CoreFigures {
     pub factors: [u32; 64],
 }
 
-// Whether a construction passes, and its figures; all zeros where none does.
+// Whether a construction passes, and the figures of the first that does; zeros where none does.
 pub struct Outcome {
     pub passes: bool,
     pub figures: CoreFigures,
@@ -94,7 +94,7 @@ fn round_up(a: u64, b: u64) -> u64
     (a + b - 1) / b
 }
 
-// DCT: the divisor of a task with period p, where that of the task after it is d.
+// DCT before the pivot, where an accelerated period is q / d: the d of a task with period p, from that of the task after it.
 fn down_step(q: u64, p: u64, d: u64) -> u64
     requires { ⌜ (1 ≤ q) × (q ≤ 60000) × (1 ≤ p) × (p ≤ 60000) × (1 ≤ d) × (d ≤ 120000) ⌝ }
     ensures { λ r. ⌜ r ≡ down q p d ⌝ }
@@ -102,7 +102,7 @@ fn down_step(q: u64, p: u64, d: u64) -> u64
     d * round_up(q, d * p)
 }
 
-// DCT: the factor of a task with period p, where that of the task before it is m.
+// DCT after the pivot: the factor of a task with period p, where that of the task before it is m.
 fn up_step(q: u64, p: u64, d: u64, m: u64) -> u64
     requires { ⌜ (1 ≤ q) × (q ≤ 60000) × (p ≤ 60000) × (d ≤ 120000) × (1 ≤ m) × (m ≤ 120000) ⌝ }
     ensures { λ r. ⌜ r ≡ m * (p * d / (q * m)) ⌝ }
@@ -110,7 +110,7 @@ fn up_step(q: u64, p: u64, d: u64, m: u64) -> u64
     m * (p * d / (q * m))
 }
 
-// DCT: the divisors of the tasks before the pivot, and of the pivot.
+// DCT: the d of each task before the pivot, and of the pivot.
 fn divisors(periods: &[u16], pivot: usize) -> [u32; 64]
     requires { ⌜ Ready (now periods) pivot ⌝ }
     ensures { λ r. ⌜ r ≡ padded (downs (at (now (periods .entry)) pivot) (take pivot (now (periods .entry)))) ⌝ }
@@ -128,7 +128,7 @@ fn divisors(periods: &[u16], pivot: usize) -> [u32; 64]
     list
 }
 
-// DCT: the factors of the tasks before the pivot, and of the pivot.
+// DCT: the factors of the tasks before the pivot, and of the pivot, from their d.
 fn lower_factors(divisors: [u32; 64], pivot: usize) -> [u32; 64]
     requires { ⌜ (pivot < 64) × ((k : ℕ) → k ≤ pivot → 0 < at divisors k) ⌝ }
     ensures { λ r. ⌜ r ≡ padded (map (λ x. at divisors 0 / x) (take (pivot + 1) divisors)) ⌝ }
@@ -143,7 +143,7 @@ fn lower_factors(divisors: [u32; 64], pivot: usize) -> [u32; 64]
     factors
 }
 
-// DCT: the factors of all tasks, from those before the pivot and of the pivot.
+// DCT: the factors of all tasks; those up to the pivot's are given.
 fn upper_factors(periods: &[u16], pivot: usize, d: u32, lower: [u32; 64]) -> [u32; 64]
     requires { ⌜ Ready (now periods) pivot × (d ≡ dctOf (now periods) pivot .D) × (lower ≡ padded (take (pivot + 1) (dctOf (now periods) pivot .factors))) ⌝ }
     ensures { λ r. ⌜ r ≡ padded (dctOf (now (periods .entry)) pivot .factors) ⌝ }
@@ -175,7 +175,7 @@ fn dct(periods: &[u16], pivot: usize) -> CoreFigures
     }
 }
 
-// One task's part of the load.
+// One task's part of the load: e * d * (last / m).
 fn share(e: u64, d: u64, last: u32, m: u32) -> u64
     requires { ⌜ (e < 65536) × (d ≤ 120000) × (last ≤ 120000) × (1 ≤ m) ⌝ }
     ensures { λ r. ⌜ (r ≡ e * d * (last / m)) × (r ≤ 943_704_000_000_000) ⌝ }
@@ -279,7 +279,7 @@ fn is_task_set(periods: &[u16], budgets: &[u16]) -> bool
     is_rising(periods)
 }
 
-// The figures of a core with these tasks: at most 64, in priority order. Anything but a set of tasks does not pass.
+// The figures of a core with these tasks, if a construction passes. Anything but a set of tasks (`taskSet`) does not pass.
 pub fn first_passing(periods: &[u16], budgets: &[u16]) -> Outcome
     ensures { λ r. ⌜ r ≡ outcome (firstPassing (now (periods .entry)) (now (budgets .entry))) ⌝ }
 {

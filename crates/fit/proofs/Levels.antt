@@ -14,7 +14,7 @@ use Rattle.fit.specs.Lists.{sum, Each, EachPair}
 use Rattle.fit.specs.Fits.{chainBreak, Multiple, Multiples, lastFactor, load, within}
 use Rattle.fit.proofs.Lists.{each-of, each-append, each-halves, each-split, each-between, pairs-before, sum-append}
 
--- multiples: of itself, of a multiple, and where nothing is left of a division
+-- a number is a multiple of itself; multiples are transitive; where the remainder is 0 there is a multiple
 multiple-self : (m : ℕ) → Multiple m m
 unfolding Multiple
 multiple-self m = (1, sym (mul-one m))

@@ -13,7 +13,7 @@ use lib.Seq.{take-all}
 use lib.Dec.{eqb}
 use Rattle.fit.specs.Lists.{at, padded, numbers, joined, sum, select, occurs, Each, EachPair}
 
--- a part from a place on is what is left from there, and a front has as many as it should
+-- a part from a place on is what is left from there, and the first a of a list are a
 pub part : (s : List ℕ) (a : ℕ) → take (length s - a) (drop a s) ≡ drop a s
 part s a = take-all (length s - a) (drop a s) (simp length-drop (omega arith))
 
@@ -26,7 +26,7 @@ zeros zero i = refl
 zeros (suc n) zero = refl
 zeros (suc n) (suc i) = zeros n i
 
--- a list with zeros past it: they are not seen by place
+-- zeros past a list change nothing that is read from it by place, and make it 64 long
 pub at-padded : (l : List ℕ) (i : ℕ) → at (padded l) i ≡ at l i
 unfolding padded
 at-padded l i = past l (64 - length l) i

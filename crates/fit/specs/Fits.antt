@@ -1,4 +1,4 @@
--- Document 01, "When a core fits": acceleration, simply periodic, load at most one, and w.
+-- When a core fits: acceleration, simply periodic factors, load at most one; and the bound w (docs/SHEET.md, section 3).
 -- p, e and M are by task number; Q and D are the core's. The list is the core's tasks in priority order.
 use Prim.Native.Nat.{ℕ, _*_, _/_, _%_}
 use mathlib.Core.Path.{_≡_}
@@ -8,11 +8,11 @@ use mathlib.Core.List.{List, [], _∷_}
 use lib.Dec.{ltb, eqb}
 use Rattle.fit.specs.Lists.{sum}
 
--- Acceleration is broken (12): Q × M is above p × D.
+-- 12 Stretch: Q × M is above p × D, which means that the accelerated period Q × M / D is above the period p.
 unfoldable pub stretched : ℕ → ℕ → ℕ → ℕ → Bool
 stretched Q D p M = ltb (p * D) (Q * M)
 
--- Simply periodic: the first task of the list whose factor is no multiple of the factor before it, which is d before the first.
+-- 13 Chain: the first task of the list whose factor is no multiple of the factor before it; d stands before the first.
 unfoldable pub chainBreak : (ℕ → ℕ) → ℕ → List ℕ → Option ℕ
 chainBreak M d [] = none
 chainBreak M d (i ∷ l) = cond (eqb (M i % d) 0) (chainBreak M (M i) l) (some i)
@@ -21,31 +21,32 @@ chainBreak M d (i ∷ l) = cond (eqb (M i % d) 0) (chainBreak M (M i) l) (some i
 unfoldable pub Multiple : ℕ → ℕ → Type 0
 Multiple d m = (c : ℕ) × (m ≡ d * c)
 
--- "in priority order each factor is a multiple of the one before it", which is d before the first
+-- simply periodic: each factor along the list is a multiple of the one before it, the first one of d
 unfoldable pub Multiples : (ℕ → ℕ) → ℕ → List ℕ → Type 0
 Multiples M d [] = Unit {0}
 Multiples M d (i ∷ l) = Multiple d (M i) × Multiples M (M i) l
 
--- L, "the last factor in priority order"; d where the list is empty
+-- the factor of the last task of the list; d where the list is empty
 unfoldable pub lastFactor : (ℕ → ℕ) → ℕ → List ℕ → ℕ
 lastFactor M d [] = d
 lastFactor M d (i ∷ l) = lastFactor M (M i) l
 
--- "the sum of e × D × (L / M) over the core's tasks"
+-- The sum of e × D × (L / M) over the list. Where L is a multiple of every M nothing is rounded, and this is Q × L times the load, the sum
+-- of e / (Q × M / D).
 unfoldable pub load : (ℕ → ℕ) → (ℕ → ℕ) → ℕ → ℕ → List ℕ → ℕ
 load e M D L l = sum (λ i. e i * D * (L / M i)) l
 
--- the load with L of the list, and the load of a full core, Q × L. The factor before the first is 1, of which every factor is a multiple.
+-- that sum with L the last factor of the list, and Q × L, which it comes to where the load is one; L is 1 for an empty list
 abbrev pub exactLoad : (ℕ → ℕ) → (ℕ → ℕ) → ℕ → List ℕ → ℕ
 exactLoad e M D l = load e M D (lastFactor M 1 l) l
 
 abbrev pub fullLoad : (ℕ → ℕ) → ℕ → List ℕ → ℕ
 fullLoad M Q l = Q * lastFactor M 1 l
 
--- Load above one (14): the load is above that of a full core.
+-- 14 Overload: the load is above one.
 unfoldable pub overloaded : (ℕ → ℕ) → (ℕ → ℕ) → ℕ → ℕ → List ℕ → Bool
 overloaded e M Q D l = ltb (fullLoad M Q l) (exactLoad e M D l)
 
--- "w is the whole part of Q × M / D."
+-- w, the whole part of the accelerated period Q × M / D
 unfoldable pub within : ℕ → ℕ → ℕ → ℕ
 within Q D M = Q * M / D

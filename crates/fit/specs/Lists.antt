@@ -1,4 +1,4 @@
--- Small functions on lists of task or core numbers, in which the rules of document 01 are written.
+-- Functions on lists, mostly of task or core numbers, in which the definitions are written (docs/SHEET.md, sections 3 to 8).
 use Prim.Native.Nat.{ℕ, zero, suc, _+_, _-_}
 use lib.Dec.{eqb}
 use mathlib.Core.Bool.{Bool, cond}
@@ -49,7 +49,7 @@ unfoldable pub select : (ℕ → Bool) → List ℕ → List ℕ
 select q [] = []
 select q (i ∷ l) = cond (q i) (i ∷ select q l) (select q l)
 
--- what f gives for each of a list, one after the other
+-- the lists that f gives for each of a list, one after the other
 unfoldable pub joined : (ℕ → List ℕ) → List ℕ → List ℕ
 joined f [] = []
 joined f (i ∷ l) = f i ++ joined f l

@@ -1,4 +1,4 @@
--- What a job list is in which nothing is broken.
+-- What a job list is that breaks no rule.
 -- Assumes nothing.
 use Prim.Native.Nat.{ℕ, _/_, _≤_, zero-le}
 use mathlib.Core.Path.{_≡_, sym, _∙_}
@@ -16,7 +16,7 @@ use Rattle.sheet.proofs.Scans.{scan-clear, whole-clear}
 use Rattle.fit.proofs.Finds.{find-none}
 use Rattle.jobs.specs.Jobs.{jobCount, jobPeriod, jobBudget, listRows, Listed}
 
--- at most 64 entries, where the count was found to be right
+-- at most 64 entries, where the test of rule 4 said false
 pub few : (l : List ℕ) (limit : ℕ) (r : Bool) → r ≡ (ltb 64 (jobCount l) || ltb 8 limit) → r ≡ false → length l / 4 ≤ 64
 unfolding jobCount
 few l limit r e h = ltb-false _ _ (neither (ltb 64 (length l / 4)) (ltb 8 limit) (sym e ∙ h) .0)

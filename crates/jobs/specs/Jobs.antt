@@ -1,4 +1,4 @@
--- Document 01, "The planner": a job list is "a list of 4-byte entries (p, e, two bytes each; a task's number is its place in the list, and in the sheet)".
+-- The job list (docs/SHEET.md, section 5): entries of 4 bytes, period and budget with two each. A task's number is its place in the list.
 use Prim.Native.Nat.{ℕ, _+_, _*_, _/_, _%_, _≤_, _<_}
 use mathlib.Core.Path.{_≡_}
 use mathlib.Core.Bool.{not, _||_}
@@ -10,6 +10,7 @@ use Rattle.sheet.specs.Ranges.{badPeriod, badBudget}
 use Rattle.sheet.specs.Table.{Row, _at_, whole}
 use Rattle.fit.specs.Lists.{numbers, find}
 
+-- the number of entries, and the period and budget of entry i
 unfoldable pub jobCount : List ℕ → ℕ
 jobCount l = length l / 4
 
@@ -19,7 +20,7 @@ jobPeriod l i = word l (4 * i)
 abbrev pub jobBudget : List ℕ → ℕ → ℕ
 jobBudget l i = word l (4 * i + 2)
 
--- "5 (length no multiple of 4), 4 (also a limit above 8), 7, 8", each over the whole list before the next
+-- 5 Length: no multiple of 4. 4 Count: over 64 entries, or a core limit above 8. 7 Period and 8 Budget at the first entry.
 unfoldable pub listRows : ℕ → List ℕ → List Row
 listRows limit l =
     5 at whole (not (eqb (length l % 4) 0))
@@ -28,7 +29,7 @@ listRows limit l =
     ∷ 8 at find (badBudget (jobPeriod l) (jobBudget l)) (numbers 0 (jobCount l))
     ∷ []
 
--- what a job list and a limit are in which nothing is broken
+-- a job list and a core limit that break none of these rules
 pub record Listed (limit : ℕ) (l : List ℕ) : Type 0 where
   pub even : length l % 4 ≡ 0
   pub count : jobCount l ≤ 64

@@ -7,7 +7,7 @@ use Rattle.jobs.specs.declared.Field.{Field}
 use Rattle.jobs.specs.declared.Field.the-variants.{Period, Budget}
 use Rattle.jobs.specs.Jobs.{jobPeriod, jobBudget}
 
--- the rule that is tested at a field of an entry
+-- a field of entry i is out of range
 abbrev pub broken : Field → List ℕ → ℕ → Bool
 broken Period l = badPeriod (jobPeriod l)
 broken Budget l = badBudget (jobPeriod l) (jobBudget l)

@@ -1,4 +1,4 @@
-// The job list: 4-byte entries with a period and a budget, and its refusals.
+// The job list: 4-byte entries with a period and a budget, and its refusals (docs/SHEET.md, section 5).
 ghost use mathlib.Core.Path.{_≡_};
 ghost use mathlib.Core.Bool.{not, _||_};
 ghost use Prim.Native.Nat.{_%_, min};
@@ -29,6 +29,8 @@ enum Field {
     Period,
     Budget,
 }
+
+// The fields of entry i.
 
 pub fn period(jobs: &[u8], i: u8) -> u16
     ensures { λ r. ⌜ r ≡ jobPeriod (now (jobs .entry)) i ⌝ }
@@ -80,7 +82,7 @@ fn is_over_count(jobs: &[u8], limit: u64) -> bool
     (64 < n) | (8 < limit)
 }
 
-// Checks a job list and a limit of cores: rules 5, 4, 7 and 8.
+// Checks a job list and a core limit: refusals 5, 4, 7 and 8.
 pub fn check_list(jobs: &[u8], limit: u64) -> Finding
     ensures { λ r. ⌜ findingOf r ≡ scan (listRows limit (now (jobs .entry))) ⌝ }
 {

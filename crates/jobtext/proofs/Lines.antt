@@ -1,9 +1,10 @@
 -- One line, as the code reads it.
 -- Assumes nothing.
-use Prim.Native.Nat.{ℕ, _+_, _-_, _*_, _≤_, _<_}
+use Prim.Native.Nat.{ℕ, _+_, _-_, _*_, _≤_, _<_, min}
 use mathlib.Core.Path.{_≡_, refl, sym, ap, _∙_}
-use mathlib.Core.Bool.{Bool, true, false, cond}
+use mathlib.Core.Bool.{Bool, true, false, not, cond, _&&_, _||_, and-false}
 use borrow.Author.Tests.{lt-ltb, le-ltb, le-leb, lt-leb, eq-eqb, ne-eqb}
+use lib.Dec.{ltb, eqb}
 use Rattle.jobtext.specs.declared.Line.{Line}
 use Rattle.jobtext.specs.Text.{bad, longer, begun, digit, pause, isDigit, isBlank, inLine}
 
@@ -19,17 +20,12 @@ module _ (l : Line) (d : ℕ) where
   unfolding begun
   begun-third r h e = chosen _ (le-leb 2 (l .numbers) h) e
 
-  pub begun-next : l .numbers < 2 → record { numbers = l .numbers + 1; inside = true; comment = l .comment; first = l .second; second = d } ≡ begun l d
+  pub begun-next : l .numbers < 2 → record { numbers = l .numbers + 1; inside = true; comment = l .comment; large = l .large; first = l .second; second = d } ≡ begun l d
   unfolding begun
   begun-next h = passed _ (lt-leb 2 (l .numbers) h) refl
 
-  pub longer-over : (r : Line) → 65535 < 10 * l .second + d → r ≡ bad l → r ≡ longer l d
-  unfolding longer
-  longer-over r h e = chosen _ (lt-ltb 65535 (10 * l .second + d) h) e
-
-  pub longer-next : 10 * l .second + d ≤ 65535 → record { numbers = l .numbers; inside = true; comment = l .comment; first = l .first; second = 10 * l .second + d } ≡ longer l d
-  unfolding longer
-  longer-next h = passed _ (le-ltb 65535 (10 * l .second + d) h) refl
+  pub longer-kept : (x : ℕ) → x ≡ min (10 * l .second + d) 65535 → record { numbers = l .numbers; inside = true; comment = l .comment; large = l .large || ltb 65535 (10 * l .second + d); first = l .first; second = x } ≡ longer l d
+  longer-kept x e = ap (λ (y : ℕ). record { numbers = l .numbers; inside = true; comment = l .comment; large = l .large || ltb 65535 (10 * l .second + d); first = l .first; second = y }) e
 
   pub digit-inside : (r : Line) → l .inside ≡ true → r ≡ longer l d → r ≡ digit l d
   unfolding digit

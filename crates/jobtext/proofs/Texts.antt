@@ -2,7 +2,7 @@
 -- Assumes nothing.
 use Prim.Native.Nat.{ℕ, suc, _+_, _*_, _/_, _≤_, _<_, min}
 use mathlib.Core.Path.{_≡_, refl, sym, ap, _∙_}
-use mathlib.Core.Bool.{Bool, true, false, cond, _&&_, and-false}
+use mathlib.Core.Bool.{Bool, true, false, not, cond, _&&_}
 use mathlib.Core.List.{List, [], _∷_, _++_}
 use native.Mathlib.Omega.{arith}
 use native.Mathlib.Numerals.{add-one}
@@ -12,37 +12,40 @@ use lib.ListN.{length, take, drop, set, getD, replicate, drop-of-length-le}
 use lib.Seq.{drop-cons, take-suc, set-at, append-snoc, length-take-le}
 use Rattle.jobtext.specs.declared.Line.{Line}
 use Rattle.jobtext.specs.declared.State.{State}
+use Rattle.jobtext.specs.declared.Fault.{Fault}
+use Rattle.jobtext.specs.declared.Fault.the-variants.{NoJob, Large, Full}
 use Rattle.jobtext.specs.declared.Read.{Read}
 use Rattle.jobtext.specs.declared.Read.the-variants.{Jobs, Wrong}
 use Rattle.jobtext.proofs.Lines.{chosen, passed}
-use Rattle.jobtext.specs.Text.{emptyLine, inLine, startState, withJob, added, newLine, stoppedAt, lineEnd, step, run, finish, roomIn, readOf, holding}
+use Rattle.jobtext.specs.Text.{emptyLine, inLine, startState, withJob, fits, added, newLine, stoppedAt, lineEnd, step, run, finish, roomIn, faultOf, readOf, holding, lineFrom, lineOf}
+
+-- a job that is added has room
+module _ (room count : ℕ) (l : Line) (t : Bool) (e : t ≡ fits room count l) (h : t ≡ true) where
+  fits-room : count < room
+  fits-room = by (eqb (l .numbers) 2) (ltb count room) refl (sym e ∙ h)
+    where
+      by : (two below : Bool) → ltb count room ≡ below → (two && (below && not (l .large))) ≡ true → count < room
+      by true true q w = ltb-true count room q
+      by true false q w = let never : _≡_ {A = ℕ} 0 1 = cc in absurd (omega arith)
+      by false below q w = let never : _≡_ {A = ℕ} 0 1 = cc in absurd (omega arith)
+
+  pub fits-table : room ≤ 64 → count < 64
+  fits-table k = omega (arith, fits-room)
 
 -- the end of a line
 module _ (room : ℕ) (s r : State) where
-  other-than-none : s .line .numbers ≡ 2 → eqb (s .line .numbers) 0 ≡ false
-  other-than-none h = ne-eqb (s .line .numbers) 0 (omega arith)
-
   pub end-none : s .line .numbers ≡ 0 → r ≡ newLine s → r ≡ lineEnd room s
   unfolding lineEnd
   end-none h e = chosen _ (eq-eqb (s .line .numbers) 0 h) e
 
-  pub end-job : s .line .numbers ≡ 2 → s .count < room → r ≡ added s → r ≡ lineEnd room s
-  unfolding lineEnd
-  end-job h k e =
-      let both : (eqb (s .line .numbers) 2 && ltb (s .count) room) ≡ true = rw (eq-eqb (s .line .numbers) 2 h, lt-ltb (s .count) room k) in
-      passed _ (other-than-none h) (chosen _ both e)
+  module _ (h : s .line .numbers ≡ 0 → ⊥) (t : Bool) (et : t ≡ fits room (s .count) (s .line)) where
+    pub end-job : t ≡ true → r ≡ added s → r ≡ lineEnd room s
+    unfolding lineEnd
+    end-job k e = passed _ (ne-eqb (s .line .numbers) 0 h) (chosen _ (sym et ∙ k) e)
 
-  pub end-full : s .line .numbers ≡ 2 → room ≤ s .count → r ≡ stoppedAt s → r ≡ lineEnd room s
-  unfolding lineEnd
-  end-full h k e =
-      let none : (eqb (s .line .numbers) 2 && ltb (s .count) room) ≡ false = rw (le-ltb (s .count) room k) (and-false (eqb (s .line .numbers) 2)) in
-      passed _ (other-than-none h) (passed _ none e)
-
-  pub end-wrong : (s .line .numbers ≡ 0 → ⊥) → (s .line .numbers ≡ 2 → ⊥) → r ≡ stoppedAt s → r ≡ lineEnd room s
-  unfolding lineEnd
-  end-wrong h k e =
-      let none : (eqb (s .line .numbers) 2 && ltb (s .count) room) ≡ false = rw (ne-eqb (s .line .numbers) 2 k) in
-      passed _ (ne-eqb (s .line .numbers) 0 h) (passed _ none e)
+    pub end-wrong : t ≡ false → r ≡ stoppedAt s → r ≡ lineEnd room s
+    unfolding lineEnd
+    end-wrong k e = passed _ (ne-eqb (s .line .numbers) 0 h) (passed _ (sym et ∙ k) e)
 
 -- the states that begin a line, with the empty line that the code made
 module _ (s : State) (l : Line) (e : l ≡ emptyLine) where
@@ -72,7 +75,7 @@ module _ (room : ℕ) (s : State) (b : ℕ) where
   -- the line number grows by at most one, and there are never more jobs than there is room for
   step-bounds : s .count ≤ room → (step room s b .number ≤ s .number + 1) × (step room s b .count ≤ room)
   unfolding step lineEnd
-  step-bounds h = by (s .stopped) (eqb b 10) (eqb (s .line .numbers) 0) (eqb (s .line .numbers) 2) (ltb (s .count) room) refl
+  step-bounds h = by (s .stopped) (eqb b 10) (eqb (s .line .numbers) 0) (fits room (s .count) (s .line)) refl
     where
       plain : State
       plain = record { number = s .number; line = inLine (s .line) b; stopped = false; count = s .count; jobs = s .jobs }
@@ -80,13 +83,12 @@ module _ (room : ℕ) (s : State) (b : ℕ) where
       Bounded : State → Type 0
       Bounded t = (t .number ≤ s .number + 1) × (t .count ≤ room)
 
-      by : (stopped feed none two fits : Bool) → ltb (s .count) room ≡ fits → Bounded (cond stopped s (cond feed (cond none (newLine s) (cond (two && fits) (added s) (stoppedAt s))) plain))
-      by true feed none two fits e = (omega arith, h)
-      by false false none two fits e = (omega arith, h)
-      by false true true two fits e = (omega arith, h)
-      by false true false true true e = (omega arith, omega (arith, ltb-true (s .count) room e))
-      by false true false true false e = (omega arith, h)
-      by false true false false fits e = (omega arith, h)
+      by : (stopped feed none job : Bool) → fits room (s .count) (s .line) ≡ job → Bounded (cond stopped s (cond feed (cond none (newLine s) (cond job (added s) (stoppedAt s))) plain))
+      by true feed none job e = (omega arith, h)
+      by false false none job e = (omega arith, h)
+      by false true true job e = (omega arith, h)
+      by false true false true e = (omega arith, omega (arith, fits-room room (s .count) (s .line) _ refl e))
+      by false true false false e = (omega arith, h)
 
 -- the whole text: what is left from place i on
 pub record Reading (room : ℕ) (text : List ℕ) (s : State) (i : ℕ) : Type 0 where
@@ -124,23 +126,41 @@ copy-end out new bytes i n h k e =
     let z : i ≡ n = omega arith in
     rw z at e
 
+-- what is wrong with a line
+module _ (room count : ℕ) (l : Line) where
+  pub fault-none : (l .numbers ≡ 2 → ⊥) → NoJob ≡ faultOf room count l
+  unfolding faultOf
+  fault-none h = passed _ (ne-eqb (l .numbers) 2 h) refl
+
+  pub fault-large : l .numbers ≡ 2 → count < room → Large ≡ faultOf room count l
+  unfolding faultOf
+  fault-large h k = chosen _ (eq-eqb (l .numbers) 2 h) (chosen _ (lt-ltb count room k) refl)
+
+  pub fault-full : l .numbers ≡ 2 → room ≤ count → Full ≡ faultOf room count l
+  unfolding faultOf
+  fault-full h k = chosen _ (eq-eqb (l .numbers) 2 h) (passed _ (le-ltb count room k) refl)
+
 -- the answers
 module _ (text out : List ℕ) (s : State) (room : ℕ) (e : s ≡ finish room text) (k : room ≡ min 64 (length out / 4)) where
   same : s ≡ finish (roomIn out) text
   unfolding roomIn
   same = rw k at e
 
-  pub wrong-answer : s .stopped ≡ true → Wrong (s .number) ≡ readOf (finish (roomIn out) text)
+  same-answer : readOf room s ≡ readOf (roomIn out) (finish (roomIn out) text)
+  unfolding roomIn
+  same-answer = rw (k, same)
+
+  pub wrong-answer : (f : Fault) → s .stopped ≡ true → f ≡ faultOf room (s .count) (s .line) → Wrong (s .number) f ≡ readOf (roomIn out) (finish (roomIn out) text)
   unfolding readOf
-  wrong-answer h = chosen _ h refl ∙ ap readOf same
+  wrong-answer f h q = chosen _ h (ap (Wrong (s .number)) q) ∙ same-answer
 
   pub wrong-bytes : s .stopped ≡ true → out ≡ holding (finish (roomIn out) text) out
   unfolding holding
   wrong-bytes h = chosen _ h refl ∙ ap (λ (x : State). holding x out) same
 
-  pub jobs-answer : s .stopped ≡ false → Jobs (4 * s .count) ≡ readOf (finish (roomIn out) text)
+  pub jobs-answer : s .stopped ≡ false → Jobs (4 * s .count) ≡ readOf (roomIn out) (finish (roomIn out) text)
   unfolding readOf
-  jobs-answer h = passed _ h refl ∙ ap readOf same
+  jobs-answer h = passed _ h refl ∙ same-answer
 
   pub jobs-bytes : (new : List ℕ) → s .stopped ≡ false → new ≡ take (4 * s .count) (s .jobs) ++ drop (4 * s .count) out → new ≡ holding (finish (roomIn out) text) out
   unfolding holding
@@ -157,17 +177,47 @@ unfolding finish
 counted room text = step-bounds room (run room startState text) 10 (run-counted room startState text (omega arith)) .1
 
 -- the jobs that are read lie within the output, and that front of it is as long
-module _ (r : Read) (n : ℕ) (text out new : List ℕ) (e : r ≡ Jobs n) (h : r ≡ readOf (finish (roomIn out) text)) (same : length new ≡ length out) where
+module _ (r : Read) (n : ℕ) (text out new : List ℕ) (e : r ≡ Jobs n) (h : r ≡ readOf (roomIn out) (finish (roomIn out) text)) (same : length new ≡ length out) where
   pub jobs-inside : n ≤ length new
   unfolding readOf roomIn
-  jobs-inside = by (finish (roomIn out) text .stopped) (sym e ∙ h)
+  jobs-inside = by (finish (roomIn out) text .stopped) (faultOf (roomIn out) (finish (roomIn out) text .count) (finish (roomIn out) text .line)) (sym e ∙ h)
     where
       few : finish (roomIn out) text .count ≤ min 64 (length out / 4)
       few = counted (roomIn out) text
 
-      by : (stopped : Bool) → Jobs n ≡ cond stopped (Wrong (finish (roomIn out) text .number)) (Jobs (4 * finish (roomIn out) text .count)) → n ≤ length new
-      by true q = let never : _≡_ {A = ℕ} 0 1 = cc in absurd (omega arith)
-      by false q = let w : n ≡ 4 * finish (roomIn out) text .count = cc in omega (arith, w, few, same)
+      by : (stopped : Bool) (f : Fault) → Jobs n ≡ cond stopped (Wrong (finish (roomIn out) text .number) f) (Jobs (4 * finish (roomIn out) text .count)) → n ≤ length new
+      by true f q = let never : _≡_ {A = ℕ} 0 1 = cc in absurd (omega arith)
+      by false f q = let w : n ≡ 4 * finish (roomIn out) text .count = cc in omega (arith, w, few, same)
 
   pub jobs-front : n ≡ length (take n new)
   jobs-front = sym (length-take-le n new jobs-inside)
+
+-- the line of job k: what is left from place i on
+pub record Seeking (k : ℕ) (text : List ℕ) (s : State) (i : ℕ) : Type 0 where
+  pub rest : lineOf k text ≡ lineFrom 64 k s (drop i text)
+  pub place : i ≤ length text
+  pub number : s .number ≤ i + 1
+  pub count : s .count ≤ 64
+
+pub seek-start : (k : ℕ) (text : List ℕ) (s : State) → s ≡ startState → Seeking k text s 0
+unfolding lineOf
+seek-start k text s e = rw e (record { rest = refl; place = omega arith; number = omega arith; count = omega arith })
+
+module _ (k : ℕ) (text : List ℕ) (s : State) (i : ℕ) (g : Seeking k text s i) where
+  pub seek-end : length text ≤ i → s .number ≡ lineOf k text
+  unfolding lineFrom
+  seek-end h = sym (g .rest ∙ rw (drop-of-length-le text {i = i} h))
+
+  module _ (t : State) (h : i < length text) (e : t ≡ step 64 s (getD text i 0)) where
+    pub seek-found : k < t .count → s .number ≡ lineOf k text
+    unfolding lineFrom
+    seek-found q =
+        let found : ltb k (step 64 s (getD text i 0) .count) ≡ true = rw (← e) (lt-ltb k (t .count) q) in
+        sym (g .rest ∙ rw (drop-cons text i 0 h, found))
+
+    pub seek-turn : t .count ≤ k → Seeking k text t (i + 1)
+    unfolding lineFrom
+    seek-turn q =
+        let later : ltb k (step 64 s (getD text i 0) .count) ≡ false = rw (← e) (le-ltb k (t .count) q) in
+        let b = step-bounds 64 s (getD text i 0) (g .count) in
+        rw e (record { rest = g .rest ∙ rw (drop-cons text i 0 h, later, add-one i); place = omega arith; number = omega (arith, b .0, g .number); count = b .1 })

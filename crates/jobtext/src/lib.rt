@@ -3,19 +3,28 @@ ghost use mathlib.Core.Path.{_≡_};
 ghost use mathlib.Core.List.{_++_};
 ghost use Prim.Native.Nat.{_+_, _-_, _*_, _/_, _≤_, _<_, min};
 ghost use lib.ListN.{length, take, drop};
-ghost use Rattle.jobtext.specs.Text.{emptyLine, bad, longer, begun, digit, pause, isDigit, isBlank, inLine, startState, added, newLine, stoppedAt, lineEnd, step, finish, roomIn, readOf, holding};
+ghost use Rattle.jobtext.specs.Text.{emptyLine, bad, longer, begun, digit, pause, isDigit, isBlank, inLine, startState, fits, added, newLine, stoppedAt, lineEnd, step, finish, roomIn, faultOf, readOf, holding, lineOf};
+
+// What is wrong with a line: it is not two numbers, one of the two is above 65,535, or there is no room for its job.
+pub enum Fault {
+    NoJob,
+    Large,
+    Full,
+}
 
 // The bytes of the jobs that were written, or the first line that is wrong, counted from 1.
 pub enum Read {
     Jobs(u16),
-    Wrong(u64),
+    Wrong(u64, Fault),
 }
 
-// The line being read: how many numbers it has, 3 if it is wrong; whether a number or a comment is being read; its last two numbers.
+// The line being read: how many numbers it has, 3 if they cannot be a job; whether a number or a comment is being read, and whether a
+// number was above 65,535; its last two numbers, at most 65,535 each.
 struct Line {
     numbers: u8,
     inside: bool,
     comment: bool,
+    large: bool,
     first: u16,
     second: u16,
 }
@@ -36,6 +45,7 @@ fn empty_line() -> Line
         numbers: 0,
         inside: false,
         comment: false,
+        large: false,
         first: 0,
         second: 0,
     }
@@ -48,9 +58,16 @@ fn mark_bad(l: Line) -> Line
         numbers: 3,
         inside: l.inside,
         comment: l.comment,
+        large: l.large,
         first: l.first,
         second: l.second,
     }
+}
+
+fn at_most_65535(x: u32) -> u16
+    ensures { λ r. ⌜ r ≡ min x 65535 ⌝ }
+{
+    if x < 65535 { x as u16 } else { 65535 }
 }
 
 // One digit more in a number.
@@ -58,15 +75,13 @@ fn extend(l: Line, d: u8) -> Line
     ensures { λ r. ⌜ r ≡ longer l d ⌝ }
 {
     let x = 10 * (l.second as u32) + (d as u32);
-    if 65535 < x {
-        return mark_bad(l);
-    }
     Line {
         numbers: l.numbers,
         inside: true,
         comment: l.comment,
+        large: l.large | (65535 < x),
         first: l.first,
-        second: x as u16,
+        second: at_most_65535(x),
     }
 }
 
@@ -82,6 +97,7 @@ fn begin(l: Line, d: u8) -> Line
         numbers: had + 1,
         inside: true,
         comment: l.comment,
+        large: l.large,
         first: l.second,
         second: d as u16,
     }
@@ -96,7 +112,7 @@ fn read_digit(l: Line, d: u8) -> Line
     begin(l, d)
 }
 
-// A number ends, and a comment begins if that is so.
+// A blank or a '#': no number is being read any more. A '#' begins a comment.
 fn end_number(l: Line, comment: bool) -> Line
     ensures { λ r. ⌜ r ≡ pause comment l ⌝ }
 {
@@ -104,6 +120,7 @@ fn end_number(l: Line, comment: bool) -> Line
         numbers: l.numbers,
         inside: false,
         comment,
+        large: l.large,
         first: l.first,
         second: l.second,
     }
@@ -209,22 +226,24 @@ fn stop(s: State) -> State
     }
 }
 
-// The end of a line: nothing, one job more if there is room for it, or wrong.
+// Whether the line is a job that can be added.
+fn can_add(line: Line, count: usize, room: usize) -> bool
+    ensures { λ r. ⌜ r ≡ fits room count line ⌝ }
+{
+    (line.numbers == 2) & ((count < room) & !line.large)
+}
+
+// The end of a line: nothing, one job more, or wrong.
 fn end_line(s: State, room: usize) -> State
     requires { ⌜ (room ≤ 64) × (s .number < 18446744073709551615) ⌝ }
     ensures { λ r. ⌜ r ≡ lineEnd room s ⌝ }
 {
     let line = s.line;
-    let numbers = line.numbers;
-    let count = s.count;
-    if numbers == 0 {
+    if line.numbers == 0 {
         return next_line(s);
     }
-    if numbers == 2 {
-        if count < room {
-            return add_job(s);
-        }
-        return stop(s);
+    if can_add(line, s.count, room) {
+        return add_job(s);
     }
     stop(s)
 }
@@ -286,17 +305,48 @@ fn room_in(bytes: usize) -> usize
     if fit < 64 { fit } else { 64 }
 }
 
+// What is wrong with a line that stopped the reading.
+fn find_fault(line: Line, count: usize, room: usize) -> Fault
+    ensures { λ r. ⌜ r ≡ faultOf room count line ⌝ }
+{
+    if line.numbers != 2 {
+        return Fault::NoJob;
+    }
+    if count < room {
+        return Fault::Large;
+    }
+    Fault::Full
+}
+
 // Reads a job list from a text: its jobs at the front of the output, four bytes each, or the first line that is wrong, and then no byte is
 // written.
 pub fn read_jobs(text: &[u8], out: &mut [u8]) -> Read
-    ensures { λ r. ⌜ (r ≡ readOf (finish (roomIn (now (out .entry))) (now (text .entry)))) × (now (out .exit) ≡ holding (finish (roomIn (now (out .entry))) (now (text .entry))) (now (out .entry))) ⌝ }
+    ensures { λ r. ⌜ (r ≡ readOf (roomIn (now (out .entry))) (finish (roomIn (now (out .entry))) (now (text .entry)))) × (now (out .exit) ≡ holding (finish (roomIn (now (out .entry))) (now (text .entry))) (now (out .entry))) ⌝ }
 {
-    let s = read_all(text, room_in(out.len()));
+    let room = room_in(out.len());
+    let s = read_all(text, room);
     if s.stopped {
-        return Read::Wrong(s.number);
+        return Read::Wrong(s.number, find_fault(s.line, s.count, room));
     }
     let n = 4 * s.count;
     let jobs = s.jobs;
     copy(out, &jobs, n);
     Read::Jobs(n as u16)
+}
+
+// The line of a job of the text, lines counted from 1 and jobs from 0. Where it has no such job, the line at which the reading ends.
+pub fn line_of(text: &[u8], job: usize) -> u64
+    ensures { λ r. ⌜ r ≡ lineOf job (now (text .entry)) ⌝ }
+{
+    let mut s = start();
+    let mut i = 0;
+    while i < text.len() {
+        let next = advance(s, 64, text[i]);
+        if job < next.count {
+            return s.number;
+        }
+        s = next;
+        i += 1;
+    }
+    s.number
 }

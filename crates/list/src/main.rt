@@ -1,13 +1,10 @@
-// Reads one sheet from standard input and prints its listing.
+// Reads one sheet from standard input and prints its listing. What goes wrong is said in one line on standard error.
+use input::Input;
 use listing::Listed;
 
-fn main() {
-    // One byte more than a sheet can have. Of a longer input the rest is left unread, which changes nothing: rules 1 to 4 look at the
-    // first 7 bytes, and rule 5 refuses 713 bytes as it refuses any greater length (proved as `listing-cut`).
-    let mut sheet = [0u8; 713];
-    let n = io::read_full(libc::STDIN_FILENO, &mut sheet);
+fn list_sheet(sheet: &[u8]) {
     let mut text = [0u8; 8192];
-    let listed = listing::list_sheet(&sheet[..n], &mut text);
+    let listed = listing::list_sheet(sheet, &mut text);
     match listed {
         Listed::Written(length) => {
             let end = length as usize;
@@ -17,4 +14,23 @@ fn main() {
         }
         Listed::Tight => {}
     }
+}
+
+// Reads one byte more than a sheet can have. Of a longer input the rest is left unread, which changes nothing: mark, version and counts
+// stand in the first 7 bytes, and 713 bytes are too many just as any greater number is (proved as `listing-cut`).
+fn list_input() {
+    let mut sheet = [0u8; 713];
+    let got = input::read_input(&mut sheet);
+    match got {
+        Input::Failed => os::fail(b"standard input"),
+        Input::Bytes(n) => list_sheet(&sheet[..n]),
+    }
+}
+
+fn main() {
+    if 1 < os::arg_count() {
+        io::write_all(libc::STDERR_FILENO, b"usage: list < SHEET\n");
+        return;
+    }
+    list_input();
 }

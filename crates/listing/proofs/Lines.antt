@@ -1,4 +1,4 @@
--- The joined, as the code writes them: the numbers of the fields are the sheet's figures, and one line follows another.
+-- The lines, as the code writes them: the numbers of the fields are the sheet's figures, and one line follows another.
 -- Assumes nothing.
 use Prim.Native.Nat.{ℕ, _+_, _*_, _≤_}
 use mathlib.Core.Path.{_≡_, refl}

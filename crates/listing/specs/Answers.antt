@@ -1,4 +1,4 @@
--- What the call answers, and what the lent buffer then holds.
+-- What the listing call answers, and what the lent buffer then holds (docs/SHEET.md, section 8).
 use Prim.Native.Nat.{ℕ}
 use mathlib.Core.Bool.{cond}
 use mathlib.Core.List.{List}
@@ -18,11 +18,11 @@ pub data Answer : Type 0 where
 unfoldable pub listed : List ℕ → List ℕ → Answer
 listed s out = cond (ltb (length out) 8192) (refused 16 0) (written (length (listingOf s)))
 
--- the text stands at the front, and the bytes past it keep what they held; a refusal writes no byte
+-- what the output then holds: the text at the front, and the bytes past it as they were; a refusal leaves every byte
 unfoldable pub holding : List ℕ → List ℕ → List ℕ
 holding s out = cond (ltb (length out) 8192) out (over (listingOf s) out)
 
--- the code's answer: Tight is 16 with place 0
+-- the code's answer as an answer of the definitions: Tight is 16 with place 0
 abbrev pub answerOf : Listed → Answer
 answerOf (Written n) = written n
 answerOf Tight = refused 16 0

@@ -4,13 +4,13 @@ use mathlib.Core.Path.{_≡_}
 use mathlib.Core.List.{List, _++_}
 use lib.ListN.{length, take, drop}
 
--- a text is written into a buffer from a place on, and nothing else
+-- `out` becomes `new`: the text is written from place `at` on and nothing else, `after` is the place behind it, and there was room
 pub record Put (out : List ℕ) (at : ℕ) (text new : List ℕ) (after : ℕ) : Type 0 where
   pub bytes : new ≡ take at out ++ (text ++ drop after out)
   pub next : after ≡ at + length text
   pub room : after ≤ length out
 
--- the same of a text of at most so many bytes
+-- the same of a text of at most `most` bytes
 pub record Capped (most : ℕ) (out : List ℕ) (at : ℕ) (text new : List ℕ) (after : ℕ) : Type 0 where
   pub put : Put out at text new after
   pub cap : after ≤ at + most

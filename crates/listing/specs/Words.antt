@@ -1,4 +1,4 @@
--- Document 01, "The listing": its words, each with the space behind it, as ASCII codes.
+-- The words of the listing, each with the space behind it, as ASCII codes (docs/SHEET.md, section 8).
 use Prim.Native.Nat.{ℕ}
 use Prim.Native.Char.{code}
 use Prim.Native.String.{String, [] as []ˢ, _∷_ as _∷ˢ_}

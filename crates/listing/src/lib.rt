@@ -1,4 +1,4 @@
-// The listing of a sheet: the text of any bytes, written into a lent buffer.
+// The listing of a sheet: the text of any bytes, written into a lent buffer (docs/SHEET.md, section 8).
 // `tasks` is the sheet's part from byte 8, `cores` its part after the last task.
 ghost use mathlib.Core.Path.{_≡_};
 ghost use Prim.Native.Nat.{_+_, _*_, _%_, _<_, _≤_};
@@ -17,7 +17,7 @@ ghost use Rattle.listing.specs.Answers.{listed, holding, answerOf};
 use checker::Verdict;
 use fit::Chain;
 
-// The length of the text, or an output that could be too short for some sheet's text.
+// The length of the text; Tight where the output is under 8,192 bytes.
 pub enum Listed {
     Written(u16),
     Tight,
@@ -75,7 +75,7 @@ fn put_field(out: &mut [u8], at: usize, text: &[u8], x: u32, end: u8) -> usize
     put_byte(out, next, end)
 }
 
-// The joined, of 2, 3, 6 and 4 fields.
+// The lines: that of a refusal has 2 fields, the first one of a sheet 3, a task's 6 and a core's 4.
 
 fn put_refused(out: &mut [u8], number: u8, place: u16) -> usize
     requires { ⌜ 38 ≤ length (now out) ⌝ }
@@ -197,7 +197,7 @@ fn put_sheet(out: &mut [u8], sheet: &[u8], n: u8, c: u8) -> usize
     put_cores(out, next, tasks, cores, n, c)
 }
 
-// Lists a sheet: the text of any bytes stands at the front of an output of at least 8,192 bytes, which is enough for every text.
+// Lists a sheet: puts the text of any bytes at the front of an output of at least 8,192 bytes, which is enough for every text.
 pub fn list_sheet(sheet: &[u8], out: &mut [u8]) -> Listed
     ensures { λ r. ⌜ (answerOf r ≡ listed (now (sheet .entry)) (now (out .entry))) × (now (out .exit) ≡ holding (now (sheet .entry)) (now (out .entry))) ⌝ }
 {

@@ -1,12 +1,13 @@
 // Reads a job list as text from standard input and writes the sheet of its plan to standard output. The arguments are the core limit and
-// the start, 8 and 0 where they are absent. What is wrong is said on standard error, and then no sheet is written.
+// the start, 8 and 0 where they are absent. What is wrong is said in one line on standard error, and then no sheet is written.
 ghost use mathlib.Core.Path.{_≡_};
 ghost use Prim.Native.Nat.{_≤_};
 ghost use Rattle.jobtext.specs.Text.{isDigit};
 ghost use Rattle.plan.specs.Number.{longer, numberIn};
+use input::Input;
+use jobtext::Fault;
 use jobtext::Read;
 use libc::STDERR_FILENO;
-use libc::STDIN_FILENO;
 use libc::STDOUT_FILENO;
 use planner::Planned;
 use sheet::Refusal;
@@ -52,7 +53,7 @@ fn read_number(text: &[u8]) -> Number
     Number::Value(x)
 }
 
-// Argument i, or a number in its place where it is absent.
+// Argument i, or a number in its place where it is absent. One too long for the buffer is wrong, since it is handed over as empty.
 fn argument(i: usize, absent: u64) -> Number {
     if os::arg_count() <= i {
         return Number::Value(absent);
@@ -70,32 +71,67 @@ fn say_number(n: u64) {
     io::print_decimal(STDERR_FILENO, n);
 }
 
-fn say_argument(i: u64) {
-    say(b"argument ");
-    say_number(i);
-    say(b" is not a number\n");
+fn say_usage() {
+    say(b"usage: plan [LIMIT [START]] < JOBS > SHEET\n");
 }
 
-fn say_line(line: u64) {
+fn say_line(line: u64, fault: Fault) {
     say(b"line ");
     say_number(line);
-    say(b" is not a job\n");
+    match fault {
+        Fault::NoJob => say(b" is not a job: a line has a period and a budget\n"),
+        Fault::Large => say(b" has a number above 65535\n"),
+        Fault::Full => say(b": more than 64 jobs\n"),
+    }
 }
 
-fn say_refused(word: Refusal, place: u16) {
+// Whether the place of a refusal is a job.
+fn is_of_job(word: Refusal) -> bool {
+    match word {
+        Refusal::Period => true,
+        Refusal::Budget => true,
+        Refusal::NoFit => true,
+        _ => false,
+    }
+}
+
+// Why there is no plan, for a list that is empty or not. The text has at most 64 jobs, so the word Count is of the core limit.
+fn say_reason(word: Refusal, empty: bool) {
+    match word {
+        Refusal::Count => say(b": the core limit is above 8"),
+        Refusal::Period => say(b": the period is not 1 to 60000"),
+        Refusal::Budget => say(b": the budget is not 1 to the period"),
+        Refusal::NoFit => say(b": no core takes this job"),
+        Refusal::Start => {
+            if empty {
+                say(b": the start of an empty list is not 0");
+            } else {
+                say(b": the start is not below the number of jobs");
+            }
+        }
+        _ => {}
+    }
+}
+
+fn say_refused(word: Refusal, place: u16, text: &[u8], empty: bool) {
     say(b"refused ");
     say_number(sheet::number(word) as u64);
     say(b" place ");
     say_number(place as u64);
+    if is_of_job(word) {
+        say(b" line ");
+        say_number(jobtext::line_of(text, place as usize));
+    }
+    say_reason(word, empty);
     say(b"\n");
 }
 
-// Plans a job list and writes the sheet.
-fn plan_jobs(jobs: &[u8], limit: u64, start: u64) {
+// Plans the job list of a text and writes the sheet.
+fn plan_jobs(text: &[u8], jobs: &[u8], limit: u64, start: u64) {
     let mut sheet = [0u8; 712];
     let planned = planner::plan(jobs, limit, start, &mut sheet);
     match planned {
-        Planned::Refused { word, place } => say_refused(word, place),
+        Planned::Refused { word, place } => say_refused(word, place, text, jobs.len() == 0),
         Planned::Written {
             tasks: _,
             cores: _,
@@ -113,34 +149,43 @@ fn plan_text(text: &[u8], limit: u64, start: u64) {
     let mut jobs = [0u8; 256];
     let read = jobtext::read_jobs(text, &mut jobs);
     match read {
-        Read::Wrong(line) => say_line(line),
+        Read::Wrong(line, fault) => say_line(line, fault),
         Read::Jobs(length) => {
             let end = length as usize;
-            plan_jobs(&jobs[..end], limit, start);
+            plan_jobs(text, &jobs[..end], limit, start);
         }
     }
 }
 
-// A text that fills the buffer may have more to it, so it is too long.
+// A text that fills the buffer has more than 65,535 bytes.
 fn plan_input(limit: u64, start: u64) {
     let mut text = io::large_buffer();
-    let n = io::read_full(STDIN_FILENO, &mut text);
-    if n == 65536 {
-        say(b"the text is longer than 65535 bytes\n");
-        return;
+    let got = input::read_input(&mut text);
+    match got {
+        Input::Failed => os::fail(b"standard input"),
+        Input::Bytes(n) => {
+            if n == 65536 {
+                say(b"the text is longer than the limit of 65535 bytes\n");
+                return;
+            }
+            plan_text(&text[..n], limit, start);
+        }
     }
-    plan_text(&text[..n], limit, start);
 }
 
 fn main() {
+    if 3 < os::arg_count() {
+        say_usage();
+        return;
+    }
     let limit = argument(1, 8);
     let start = argument(2, 0);
     let Number::Value(cores) = limit else {
-        say_argument(1);
+        say_usage();
         return;
     };
     let Number::Value(from) = start else {
-        say_argument(2);
+        say_usage();
         return;
     };
     plan_input(cores, from);

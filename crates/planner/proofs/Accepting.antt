@@ -39,7 +39,7 @@ unfolding Each
 map-ext f g [] h = refl
 map-ext f g (i ∷ l) h = rw (h .0, map-ext f g l (h .1))
 
--- what stands at the place of each task is the whole list
+-- fs looked up at the place of each task of l is fs again, where no task stands in l twice
 map-places : (fs l : List ℕ) → EachPair (λ i j. i ≡ j → ⊥) l → length fs ≡ length l → map (λ i. at fs (placeOf (λ z. eqb z i) l)) l ≡ fs
 unfolding placeOf EachPair
 map-places [] [] d e = refl
@@ -49,7 +49,7 @@ map-places (y ∷ fs) (x ∷ l) d e =
     rw (eq-eqb x x refl)
     (ap (λ (t : List ℕ). y ∷ t) (map-ext _ (λ i. at fs (placeOf (λ z. eqb z i) l)) l (each-of l (λ i q. rw (ne-eqb x i q)) (d .0)) ∙ map-places fs l (d .1) (omega arith)))
 
--- what is some
+-- the figures, where there are some
 some-of : (x : Option Acceleration) → isSome x ≡ true → (a : Acceleration) × (x ≡ some a)
 unfolding isSome
 some-of none h = absurd (false≢true h)

@@ -129,7 +129,7 @@ module _ (p e : ℕ → ℕ) (n limit : ℕ) (small : limit ≤ 8) (many : n ≤
             rw (le-ltb k (a .cores) (omega (arith, x .0)))
             (settle (a .cores + 1) (omega arith) (omega (arith, x .0)) (omega (arith, x .1)) (λ m b c. lt-of-le-ne (omega arith) (λ z. c (z ∙ sym (x .0)))) (takes-alone (x .0) (x .1)), omega (arith, x .0), omega arith, refl)
 
-  -- what a walk leaves: it is settled, its tasks have open cores, and who had one still has
+  -- what a walk leaves: it is settled, its tasks have open cores, and every task that had one still has one
   walked : (l : List ℕ) (a b : Assignment) → Settled p e n limit a → Fresh n l a → firstFit p e n limit l a ≡ placed b → Settled p e n limit b × Each (λ i. at (b .core) i < b .cores) l × ((j : ℕ) → at (a .core) j < a .cores → at (b .core) j < b .cores)
   unfolding firstFit onward Each EachPair
   walked [] a b s f q = let same : a ≡ b = cc in (subst (Settled p e n limit) same s, tt, λ j h. subst (λ (c : Assignment). at (c .core) j < c .cores) same h)
@@ -151,7 +151,7 @@ module _ (p e : ℕ → ℕ) (n limit : ℕ) (small : limit ≤ 8) (many : n ≤
           kept j x (yes w) here other low more = rw w (omega (arith, here, low))
           kept j x (no w) here other low more = omega (arith, other j w, more, x)
 
--- each pair of two lists, and of them the other way round
+-- the pairs of two lists together are those of each and those across; and those across, the other way round
 pairs-halves : (R : ℕ → ℕ → Type 0) (xs ys : List ℕ) → EachPair R (xs ++ ys) → EachPair R xs × EachPair R ys × Each (λ x. Each (R x) ys) xs
 unfolding Each EachPair
 pairs-halves R [] ys h = (tt, h, tt)
@@ -165,7 +165,7 @@ unfolding Each
 each-swap R [] ys h = each-all (λ y. Unit {0}) ys (λ y. tt)
 each-swap R (x ∷ xs) ys h = each-both ys (λ y a b. (a, b)) (h .0) (each-swap R xs ys (h .1))
 
--- a list that is turned round has the same in it, once
+-- a list that is walked round from a start has the same in it, and nothing twice if the list has nothing twice
 module _ (start : ℕ) (l : List ℕ) where
   rotate-each : (P : ℕ → Type 0) → Each P l → Each P (rotate start l)
   unfolding rotate

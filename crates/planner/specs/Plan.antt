@@ -1,4 +1,4 @@
--- Document 01, "The planner": its refusals in order, its answer, and what it leaves in the lent buffer.
+-- The planner's refusals in their order, its answer, and what it leaves in the lent buffer (docs/SHEET.md, section 5).
 use Prim.Native.Nat.{ℕ}
 use mathlib.Core.Path.{_≡_}
 use mathlib.Core.Bool.{Bool, not, cond}
@@ -23,23 +23,24 @@ unfoldable pub fitOf : List ℕ → ℕ → ℕ → Fit
 fitOf l limit start =
     firstFit (jobPeriod l) (jobBudget l) (jobCount l) limit (rotate start (orderBy Ring (jobPeriod l) (jobCount l))) unassigned
 
--- 22: "start not below n, or not 0 when n is 0"
+-- 22 Start: the start is not below n, or not 0 where n is 0
 unfoldable pub badStart : ℕ → ℕ → Bool
 badStart n start = cond (eqb n 0) (not (eqb start 0)) (leb n start)
 
--- 15: the task that finds no core
+-- 15 No fit: the task that finds no core
 unfoldable pub noFit : Fit → Option ℕ
 noFit (placed a) = none
 noFit (unplaced i) = some i
 
--- "Order of refusals: 5 .., 4 .., 7, 8, 22, 16, 15." All but 15 are told before any core is looked for.
+-- 5, 4, 7 and 8 of the job list, 22 Start, 16 Tight (room for fewer than 712 bytes): told before any core is looked for
 unfoldable pub callRows : List ℕ → ℕ → ℕ → ℕ → List Row
 callRows l limit start room = listRows limit l ++ (22 at whole (badStart (jobCount l) start) ∷ 16 at whole (ltb room 712) ∷ [])
 
+-- then 15 No fit
 unfoldable pub planRows : List ℕ → ℕ → ℕ → ℕ → List Row
 planRows l limit start room = callRows l limit start room ++ (15 at noFit (fitOf l limit start) ∷ [])
 
--- the sheet of a plan, and its number of cores
+-- the sheet of a plan, and its number of cores; nothing where a task finds no core
 unfoldable pub sheetFor : List ℕ → Fit → List ℕ
 sheetFor l (placed a) = sheetOf (jobPeriod l) (jobBudget l) (jobCount l) a
 sheetFor l (unplaced i) = []
@@ -48,34 +49,37 @@ unfoldable pub coresFor : Fit → ℕ
 coresFor (placed a) = a .cores
 coresFor (unplaced i) = 0
 
--- "The answer gives n, c and the length", or a refusal
+-- written with n, c and the length of the sheet, or refused with a number and a place
 pub data Outcome : Type 0 where
   written : ℕ → ℕ → ℕ → Outcome
   refused : ℕ → ℕ → Outcome
 
+-- the refusal that was found, else x
 unfoldable pub unless : Option Refused → Outcome → Outcome
 unless none x = x
 unless (some r) x = refused (r .number) (r .place)
 
+-- the planner's answer, with an output of `room` bytes
 unfoldable pub planOutcome : List ℕ → ℕ → ℕ → ℕ → Outcome
 planOutcome l limit start room =
     unless (scan (planRows l limit start room))
     (written (jobCount l) (coresFor (fitOf l limit start)) (length (sheetFor l (fitOf l limit start))))
 
--- "Bytes past the sheet's end keep what they held"; a refusal writes no byte
+-- the sheet s at the front of the output, of which the bytes past the sheet stay; a refusal leaves every byte
 unfoldable pub laidOver : Option Refused → List ℕ → List ℕ → List ℕ
 laidOver none s out = over s out
 laidOver (some r) s out = out
 
+-- what the output holds after the call
 unfoldable pub planOutput : List ℕ → ℕ → ℕ → List ℕ → List ℕ
 planOutput l limit start out = laidOver (scan (planRows l limit start (length out))) (sheetFor l (fitOf l limit start)) out
 
--- the code's answer as an outcome: a word is its number in document 01
+-- the code's answer as an outcome: a word stands for its number
 abbrev pub outcomeOf : Planned → Outcome
 outcomeOf (Written n c s) = written n c s
 outcomeOf (Rejected w p) = refused (numberOf w) p
 
--- the checker accepts what was written, with the answer's counts
+-- the checker accepts what was written, with the counts of the answer
 abbrev pub Accepting : Planned → List ℕ → Type 0
 Accepting (Written n c s) out = verdict (take s out) ≡ accepted n c
 Accepting (Rejected w p) out = Unit {0}

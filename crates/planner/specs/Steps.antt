@@ -17,7 +17,7 @@ use Rattle.planner.specs.declared.TaskSet.{TaskSet}
 use Rattle.planner.specs.FirstFit.{Fit, placed, unplaced}
 use Rattle.planner.specs.Sheet.{taskRecord, coreRecord, figuresFor, factorFor}
 
--- the tasks of a list that has at most 64, in priority order
+-- `order` has the tasks of a job list of at most 64 entries in priority order
 pub record Prioritized (l order : List ℕ) : Type 0 where
   pub few : jobCount l ≤ 64
   pub tasks : order ≡ orderBy Period (jobPeriod l) (jobCount l)
@@ -27,7 +27,7 @@ pub record Assigned (l : List ℕ) (a : Assignment) : Type 0 where
   pub few : a .cores ≤ 8
   pub core : (i : ℕ) → i < jobCount l → at (a .core) i < a .cores
 
--- a list of which the first `count` count, with i behind them if it belongs there; r of the new list count, and the rest is as it was
+-- the first r of the new list are the first `count` of the list, with i behind them if it belongs there; the rest is as it was
 pub record Pushed (list : List ℕ) (count i : ℕ) (belongs : Bool) (new : List ℕ) (r : ℕ) : Type 0 where
   pub more : (count ≤ r) × (r ≤ count + 1)
   pub front : take r new ≡ cond belongs (take count list ++ i ∷ []) (take count list)
@@ -43,21 +43,22 @@ unfoldable pub fitBy : Found → Assignment → Fit
 fitBy (At i) a = unplaced i
 fitBy Nothing a = placed a
 
+-- the same of what the code hands on
 unfoldable pub fitted : Fitted → Fit
 fitted f = fitBy (f .unplaced) (f .assignment)
 
--- factors by task number, with those of the listed tasks from place m of their core on
+-- factors by task number, in which the listed tasks one after the other get a core's own factors from place m on
 unfoldable pub spread : List ℕ → List ℕ → ℕ → List ℕ → List ℕ
 spread own [] m factors = factors
 spread own (i ∷ l) m factors = spread own l (suc m) (set factors i (at own m))
 
--- the figures of an assignment's cores and tasks
+-- pivots and divisors of the open cores, and factors of the tasks, as the sheet has them
 pub record Rated (l : List ℕ) (a : Assignment) (r : Rates) : Type 0 where
   pub pivot : (k : ℕ) → k < a .cores → at (r .pivots) k ≡ figuresFor (jobPeriod l) (jobBudget l) (jobCount l) a k .Q
   pub divisor : (k : ℕ) → k < a .cores → at (r .divisors) k ≡ figuresFor (jobPeriod l) (jobBudget l) (jobCount l) a k .D
   pub factor : (i : ℕ) → i < jobCount l → at (r .factors) i ≡ factorFor (jobPeriod l) (jobBudget l) (jobCount l) a i
 
--- the record of task i and of core k, from arrays
+-- the record of task i and of core k, with core, factor, pivot and divisor from arrays
 unfoldable pub taskBytes : List ℕ → List ℕ → List ℕ → ℕ → List ℕ
 taskBytes l core factors i = taskRecord (jobPeriod l i) (jobBudget l i) (at core i) (at factors i)
 

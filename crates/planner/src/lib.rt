@@ -1,4 +1,4 @@
-// The planner: a job list, a core limit and a start become a sheet in a lent buffer.
+// The planner: a job list, a core limit and a start become a sheet in a lent buffer (docs/SHEET.md, section 5).
 // `order` has all tasks in priority order; `cores` is the core of each task by number.
 ghost use mathlib.Core.Path.{_≡_};
 ghost use Prim.Native.Nat.{_+_, _*_, _<_, _≤_};
@@ -73,7 +73,7 @@ fn with_core(cores: [u8; 64], i: u8, k: u8) -> [u8; 64]
     next
 }
 
-// Puts i behind the first `count` of a list, if it belongs there. The number that there then are is returned.
+// Puts i behind the first `count` of a list, if it belongs there. Returns how many there are then.
 fn push(list: &mut [u8], count: usize, i: u8, belongs: bool) -> usize
     requires { ⌜ count < length (now list) ⌝ }
     ensures { λ r. ⌜ Pushed (now (list .entry)) count i belongs (now (list .exit)) r ⌝ }
@@ -369,7 +369,7 @@ fn put_core(part: &mut [u8], q: u16, d: u32)
     part[7] = (d / 65536 / 256 % 256) as u8;
 }
 
-// The task records.
+// The task records. `part` is the output from byte 8.
 fn put_tasks(part: &mut [u8], jobs: &[u8], n: u8, cores: [u8; 64], factors: [u32; 64])
     requires { ⌜ (n ≤ 64) × (10 * n ≤ length (now part)) ⌝ }
     ensures { λ _. ⌜ now (part .exit) ≡ over (joined (taskBytes (now (jobs .entry)) cores factors) (numbers 0 n)) (now (part .entry)) ⌝ }
@@ -390,7 +390,7 @@ fn put_tasks(part: &mut [u8], jobs: &[u8], n: u8, cores: [u8; 64], factors: [u32
     }
 }
 
-// The core joined, into the part after the last task.
+// The core records. `part` is the output after the last task.
 fn put_cores(part: &mut [u8], c: u8, pivots: [u16; 8], divisors: [u32; 8])
     requires { ⌜ (c ≤ 8) × (8 * c ≤ length (now part)) ⌝ }
     ensures { λ _. ⌜ now (part .exit) ≡ over (joined (coreBytes pivots divisors) (numbers 0 c)) (now (part .entry)) ⌝ }

@@ -18,12 +18,12 @@ pub past-long : (s : List ℕ) (i : ℕ) → length s ≤ i → 0 ≡ long s i
 unfolding long
 past-long s i h = omega (arith, past-word s i h, past-word s (i + 2) (omega arith))
 
--- a number's last byte stands at the end
+-- of a number's two bytes only the first is there
 pub word-last : (s : List ℕ) (i r : ℕ) → length s - i < 2 → r ≡ getD s i 0 + 256 * 0 → r ≡ word s i
 unfolding word
 word-last s i r h e = omega (arith, past s (i + 1) (omega arith))
 
--- four bytes, two by two
+-- a number of four bytes from its bytes, and from its two numbers of two
 pub long-bytes : (s : List ℕ) (i low high r : ℕ) → low ≡ getD s i 0 + 256 * getD s (i + 1) 0 → high ≡ getD s (i + 2) 0 + 256 * getD s (i + 3) 0 → r ≡ low + 65536 * high → r ≡ long s i
 unfolding long word
 long-bytes s i low high r a b e =

@@ -1,10 +1,10 @@
--- Document 01, "The sheet": the header, the task records of 10 bytes and the core records of 8 bytes, decoded.
+-- The header, the task records and the core records, decoded (docs/SHEET.md, section 2).
 use Prim.Native.Nat.{ℕ, _+_, _*_}
 use mathlib.Core.List.{List}
 use lib.ListN.{getD, drop}
 use Rattle.sheet.specs.Numbers.{word, long}
 
--- "period p (2), budget e (2), core (1), spare (1), factor M (4)", of task i in the part that starts at byte 8
+-- The fields of task i in the part that starts at byte 8. A record has 10 bytes: period (2), budget (2), core (1), spare (1), factor (4).
 abbrev pub periodAt : List ℕ → ℕ → ℕ
 periodAt tasks i = word tasks (10 * i)
 
@@ -17,14 +17,14 @@ coreAt tasks i = getD tasks (10 * i + 4) 0
 abbrev pub factorAt : List ℕ → ℕ → ℕ
 factorAt tasks i = long tasks (10 * i + 6)
 
--- "pivot period Q (2), two spare bytes, divisor D (4)", of core k in the part after the last task
+-- The fields of core k in the part after the last task. A record has 8 bytes: pivot period (2), spare (2), divisor (4).
 abbrev pub pivotAt : List ℕ → ℕ → ℕ
 pivotAt cores k = word cores (8 * k)
 
 abbrev pub divisorAt : List ℕ → ℕ → ℕ
 divisorAt cores k = long cores (8 * k + 4)
 
--- The figures of a sheet: n and c, then p, e, the core and M by task number, Q and D by core number.
+-- The figures of a sheet: the counts n and c; period p, budget e, core and factor M by task number; pivot Q and divisor D by core number.
 pub record Figures : Type 0 where
   pub tasks : ℕ
   pub cores : ℕ
@@ -35,21 +35,22 @@ pub record Figures : Type 0 where
   pub pivot : ℕ → ℕ
   pub divisor : ℕ → ℕ
 
--- the figures that n task records and c core records hold
+-- the figures of n task records and c core records
 abbrev pub figuresOf : ℕ → ℕ → List ℕ → List ℕ → Figures
 figuresOf n c tasks cores =
     record { tasks = n; cores = c; period = periodAt tasks; budget = budgetAt tasks; core = coreAt tasks; factor = factorAt tasks; pivot = pivotAt cores; divisor = divisorAt cores }
 
--- n and c stand in bytes 5 and 6
+-- the counts: n is byte 5 of the header, c is byte 6
 abbrev pub taskCount : List ℕ → ℕ
 taskCount s = getD s 5 0
 
 abbrev pub coreCount : List ℕ → ℕ
 coreCount s = getD s 6 0
 
--- the task records are the part from byte 8, and in it the core records "follow the last task"
+-- the figures of the part from byte 8: n task records, then c core records
 abbrev pub figuresIn : ℕ → ℕ → List ℕ → Figures
 figuresIn n c records = figuresOf n c records (drop (10 * n) records)
 
+-- the figures of a sheet
 abbrev pub figures : List ℕ → Figures
 figures s = figuresIn (taskCount s) (coreCount s) (drop 8 s)

@@ -1,8 +1,9 @@
--- Document 01, "Refused sheets and calls": the number of each word.
+-- The refusals (docs/SHEET.md, section 9).
 use Prim.Native.Nat.{ℕ}
 use Rattle.sheet.specs.declared.Refusal.{Refusal}
 use Rattle.sheet.specs.declared.Refusal.the-variants.{Stub, Mark, Version, Count, Length, Spare, Period, Budget, Core, Bare, Factor, Stretch, Chain, Overload, NoFit, Tight, Unlisted, Early, Late, Quiet, Foreign, Start}
 
+-- the number of each refusal, by its word
 abbrev pub numberOf : Refusal → ℕ
 numberOf Stub = 1
 numberOf Mark = 2

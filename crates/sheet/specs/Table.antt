@@ -1,4 +1,4 @@
--- Document 01, "Refused sheets and calls": a refusal, and a table of rules that is read from the top.
+-- A refusal, and a table of rules that is read from the top (docs/SHEET.md, section 9).
 use Prim.Native.Nat.{ℕ, _+_}
 use mathlib.Core.Bool.{Bool, true, false}
 use mathlib.Core.Option.{Option, none, some, Option·map}
@@ -9,32 +9,32 @@ use Rattle.sheet.specs.declared.Finding.{Finding}
 use Rattle.sheet.specs.declared.Finding.the-variants.{Clear, Broken}
 use Rattle.sheet.specs.Refusals.{numberOf}
 
--- "A refusal is its number and a place"
+-- a refusal: a number, and a place that is a task, 64 plus a core, an offset, or 0
 pub record Refused : Type 0 where
   pub number : ℕ
   pub place : ℕ
 
--- a row has a rule's number and the place where the rule is broken first, if it is
+-- a row: a rule's number, and the first place at which the rule is broken, if it is
 infix 68 _at_
 pub data Row : Type 0 where
   _at_ : ℕ → Option ℕ → Row
 
--- "It answers the first that applies": the first row that has a place
+-- the refusal of the first row that has a place
 unfoldable pub scan : List Row → Option Refused
 scan [] = none
 scan ((k at none) ∷ rows) = scan rows
 scan ((k at some x) ∷ rows) = some (record { number = k; place = x })
 
--- a rule of the whole has place 0
+-- a rule about the whole sheet, list or call has place 0 where it is broken
 unfoldable pub whole : Bool → Option ℕ
 whole true = some 0
 whole false = none
 
--- a core's place is "64 plus a core number"
+-- the place of a core: 64 plus its number
 unfoldable pub core : Option ℕ → Option ℕ
 core o = Option·map (λ k. 64 + k) o
 
--- what the code finds, as a place and as a refusal: a word is its number
+-- what the code finds, as a place and as a refusal: a word stands for its number
 abbrev pub foundOf : Found → Option ℕ
 foundOf (At i) = some i
 foundOf Nothing = none

@@ -1,4 +1,4 @@
-// The sheet's bytes: the words of its refusals, little-endian numbers, and the fields of task and core records.
+// The refusals, little-endian numbers, and the fields of task and core records.
 // Every reader is total: what stands past the end reads as 0.
 ghost use mathlib.Core.Path.{_≡_};
 ghost use Prim.Native.Nat.{_+_, _*_, _≤_};
@@ -8,7 +8,7 @@ ghost use Rattle.sheet.specs.Ranges.{outOf};
 ghost use Rattle.sheet.specs.Numbers.{word, long};
 ghost use Rattle.sheet.specs.Records.{periodAt, budgetAt, coreAt, factorAt, pivotAt, divisorAt};
 
-// The refusals of document 01 by their words.
+// The refusals by their words, in the order of their numbers (docs/SHEET.md, section 9).
 pub enum Refusal {
     Stub,
     Mark,
@@ -34,13 +34,13 @@ pub enum Refusal {
     Start,
 }
 
-// The first place at which something was found.
+// The first place at which something is found, if any.
 pub enum Found {
     At(u8),
     Nothing,
 }
 
-// What a group of rules finds.
+// What a group of rules finds: none is broken, or the first that is, and its place.
 pub enum Finding {
     Clear,
     Broken(Refusal, u16),
@@ -138,7 +138,7 @@ pub fn offset(size: u8, i: u8) -> usize
     (size as usize) * (i as usize)
 }
 
-// The fields of task i. The part is the sheet's from byte 8.
+// The fields of task i. `tasks` is the sheet's part from byte 8.
 
 pub fn period(tasks: &[u8], i: u8) -> u16
     ensures { λ r. ⌜ r ≡ periodAt (now (tasks .entry)) i ⌝ }
@@ -164,7 +164,7 @@ pub fn factor(tasks: &[u8], i: u8) -> u32
     read_long(tasks, 10 * (i as usize) + 6)
 }
 
-// The fields of core k. The part is the sheet's after the last task.
+// The fields of core k. `cores` is the sheet's part after the last task.
 
 pub fn pivot(cores: &[u8], k: u8) -> u16
     ensures { λ r. ⌜ r ≡ pivotAt (now (cores .entry)) k ⌝ }

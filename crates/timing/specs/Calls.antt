@@ -1,4 +1,4 @@
--- Document 01, "The dispatcher": calls on a core, their answers, the state that each hands back, and the log of a list of calls.
+-- Calls on a core, their answers, the state that each hands back, and the log of a list of calls (docs/SHEET.md, sections 6 and 7).
 -- A core's state is here the list of its tasks in priority order.
 use Prim.Native.Nat.{ℕ}
 use mathlib.Core.Bool.{Bool, cond}
@@ -19,15 +19,15 @@ pub data Answer : Type 0 where
   idle : Answer
   refused : ℕ → ℕ → Answer
 
--- a release of a task that is there: 18 Early, then 19 Late
+-- a release of a task that is there: 18 Early, then 19 Late, else accepted
 unfoldable pub releaseAnswer : Task → Answer
 releaseAnswer t = cond (early t) (refused 18 (t .number)) (cond (pending t) (refused 19 (t .number)) accepted)
 
--- a finish of a task that is there: 20 Quiet
+-- a finish of a task that is there: 20 Quiet where nothing is pending, else accepted
 unfoldable pub finishAnswer : Task → Answer
 finishAnswer t = cond (pending t) accepted (refused 20 (t .number))
 
--- a tick that goes to a task: "its task number is the answer"
+-- a tick that goes to a task is answered with its number
 abbrev pub tickAnswer : Task → Answer
 tickAnswer t = served (t .number)
 
@@ -41,13 +41,15 @@ unfoldable pub modify : (Task → Bool) → (Task → Task) → List Task → Li
 modify q f [] = []
 modify q f (t ∷ s) = cond (q t) (f t ∷ s) (t ∷ modify q f s)
 
--- what a call answers: of a number that no task has 17 Unlisted, of a tick "the first pending task by priority .. else idle"
+-- what a call answers: a release or finish goes to the task with the number, 17 Unlisted where there is none; a tick goes to the first
+-- pending task by priority, and is idle where there is none
 unfoldable pub answer : Call → List Task → Answer
 answer (release j) s = ofFirst (named j) releaseAnswer (refused 17 0) s
 answer (finish j) s = ofFirst (named j) finishAnswer (refused 17 0) s
 answer tick s = ofFirst pending tickAnswer idle s
 
--- the state that a call hands back
+-- the state that a call hands back: a release or finish changes the task with the number; a tick takes one tick from the first pending
+-- task, and then every age rises
 unfoldable pub next : Call → List Task → List Task
 next (release j) s = modify (named j) released s
 next (finish j) s = modify (named j) finished s

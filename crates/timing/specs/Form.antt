@@ -1,4 +1,4 @@
--- Document 01, "The dispatcher": the state's own form, whose breach is 21 Foreign, and the fresh state.
+-- The form of a state, whose breach is 21 Foreign, and the fresh state (docs/SHEET.md, section 6).
 use Prim.Native.Nat.{_≤_}
 use mathlib.Core.Path.{_≡_}
 use mathlib.Core.List.{List}
@@ -7,7 +7,8 @@ use Rattle.fit.specs.Lists.{Each, EachPair}
 use Rattle.fit.specs.Priority.{Higher}
 use Rattle.timing.specs.declared.Task.{Task}
 
--- a task's own fields: its number at most 63, p and e in range, age at most p, ticks left at most e
+-- a task's own fields: its number at most 63, period 1 to 60,000, budget 1 to the period, age at most the period, ticks left at most the
+-- budget
 pub record Sound (t : Task) : Type 0 where
   pub number-max : t .number ≤ 63
   pub period-min : 1 ≤ t .period
@@ -21,7 +22,7 @@ pub record Sound (t : Task) : Type 0 where
 unfoldable pub Distinct : Task → Task → Type 0
 Distinct t u = t .number ≡ u .number → ⊥
 
--- the priority of one task over another
+-- task t has priority over task u
 unfoldable pub Above : Task → Task → Type 0
 Above t u = Higher (t .period) (t .number) (u .period) (u .number)
 
@@ -32,7 +33,7 @@ pub record Form (s : List Task) : Type 0 where
   pub distinct : EachPair Distinct s
   pub ordered : EachPair Above s
 
--- "every age equal to the period, nothing left"
+-- a fresh task: its age is its period, and its job has no ticks left
 pub record Fresh (t : Task) : Type 0 where
   pub age : t .age ≡ t .period
   pub left : t .left ≡ 0

@@ -1,4 +1,4 @@
--- Document 01, the on-time rule of demand 3, told by calls and answers alone.
+-- The on-time rule, told by calls and answers alone (docs/SHEET.md, section 7).
 use Prim.Native.Nat.{ℕ, _+_, _≤_}
 use mathlib.Core.Path.{_≡_}
 use mathlib.Core.Logic.{_⊎_}
@@ -12,6 +12,7 @@ unfoldable pub count : (Entry → Bool) → List Entry → ℕ
 count q [] = 0
 count q (x ∷ l) = cond (q x) (count q l + 1) (count q l)
 
+-- tests of a call: it is a tick, it is a finish of j
 unfoldable pub toTick : Call → Bool
 toTick (release j) = false
 toTick (finish j) = false
@@ -22,6 +23,7 @@ toFinish j (release i) = false
 toFinish j (finish i) = eqb i j
 toFinish j tick = false
 
+-- tests of an answer: the tick went to j, accepted, refused with number n
 unfoldable pub servedTo : ℕ → Answer → Bool
 servedTo j accepted = false
 servedTo j (served i) = eqb i j
@@ -40,23 +42,24 @@ refusedWith n (served i) = false
 refusedWith n idle = false
 refusedWith n (refused m i) = eqb m n
 
--- a tick, idle ones too
+-- a tick, whatever it was answered: idle ticks count too
 unfoldable pub isTick : Entry → Bool
 isTick (entry c a) = toTick c
 
--- a tick that was answered with the task's number
+-- a tick that was answered with j
 unfoldable pub isRun : ℕ → Entry → Bool
 isRun j (entry c a) = toTick c && servedTo j a
 
--- a finish of the task that was accepted
+-- a finish of j that was accepted
 unfoldable pub isFinish : ℕ → Entry → Bool
 isFinish j (entry c a) = toFinish j c && isAccepted a
 
--- a call that was refused with this number
+-- a call that was refused with number n
 unfoldable pub isRefused : ℕ → Entry → Bool
 isRefused n (entry c a) = refusedWith n a
 
--- "The job has ended .. if .. e ticks were answered with the task's number or a finish of the task was accepted."
+-- A job of task j with budget e has ended over the log l that follows its release: e ticks or more were answered with j, or a finish of j
+-- was accepted.
 unfoldable pub Ended : ℕ → ℕ → List Entry → Type 0
 Ended e j l = (e ≤ count (isRun j) l) ⊎ (1 ≤ count (isFinish j) l)
 

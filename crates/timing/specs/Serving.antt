@@ -1,5 +1,5 @@
--- What document 01 says of ticks and ages, over whole states and logs: the tick goes to the first pending task by priority, and the age
--- of a task counts the ticks since its last accepted release.
+-- Ticks and ages over whole states and logs (docs/SHEET.md, section 6): a tick goes to the first pending task by priority, and the age of a
+-- task counts the ticks since its last accepted release.
 use Prim.Native.Nat.{ℕ, _<_, min}
 use mathlib.Core.Path.{_≡_}
 use mathlib.Core.Logic.{_⊎_}
@@ -13,26 +13,27 @@ use Rattle.timing.specs.Calls.{Call, release, finish, tick, accepted, En
 use Rattle.timing.specs.Form.{Above}
 use Rattle.timing.specs.OnTime.{count, isTick, isAccepted}
 
--- the task that stands at no place
+-- what stands at a place without a task: zeros
 abbrev pub noTask : Task
 noTask = record { period = 0; budget = 0; age = 0; left = 0; number = 0 }
 
--- the task at a place, in priority order from 0
+-- the task at place i, from 0 in priority order
 abbrev pub nth : List Task → ℕ → Task
 nth s i = getD s i noTask
 
--- the task at place i is pending, and every pending task is this one or stands below it
+-- the task at place i is pending, and has priority over every other pending task
 pub record Foremost (s : List Task) (i : ℕ) : Type 0 where
   pub place : i < length s
   pub waits : 0 < nth s i .left
   pub others : Each (λ u. 0 < u .left → (u ≡ nth s i) ⊎ Above (nth s i) u) s
 
+-- a call that releases j
 unfoldable pub toRelease : ℕ → Call → Bool
 toRelease j (release i) = eqb i j
 toRelease j (finish i) = false
 toRelease j tick = false
 
--- a release of the task that was accepted
+-- a release of j that was accepted
 unfoldable pub isRelease : ℕ → Entry → Bool
 isRelease j (entry c a) = toRelease j c && isAccepted a
 

@@ -1,4 +1,4 @@
-// One task of a core as the dispatcher keeps it: its figures, its number, and the age and ticks left of its job.
+// One task of a core as the dispatcher keeps it: its period and budget, its age, the ticks left of its job, and its number.
 // The definitions in specs/ and the theorems in proofs/ are about lists of these, in priority order.
 #[repr(C)]
 pub struct Task {

@@ -1,6 +1,7 @@
-// The layout, as in tests/c/use.c: sizes, and of each field its offset and width. Included where the structs have these names.
+// The layout, as in tests/c/use.c: sizes, and of each field its offset and width. Included where the structs have these names, with or
+// without std.
 
-use std::mem::offset_of;
+use core::mem::offset_of;
 
 const fn width<T, F>(_field: fn(&T) -> &F) -> usize {
     size_of::<F>()

@@ -1,204 +1,131 @@
-//! Safe Rust over the proved library. Every call takes any input and always returns; a refusal has document 01's number and place.
+//! Safe Rust over the proved library: checks, plans and runs timing sheets. What a sheet is and when a core fits is told in
+//! `docs/SHEET.md` of the repository.
+//!
+//! A [`Sheet`] is an accepted one, checked or planned. A [`Core`] is started from it, and then told what happens: a task is released,
+//! a job ends early, a unit of time begins. The answer to a tick is the task that has this unit of time.
+//!
+//! ```
+//! use homvaits::{plan, Core, Job};
+//!
+//! # fn main() -> Result<(), homvaits::Refusal> {
+//! // every 5 ticks for 1 tick, and every 9 ticks for 7, on one core
+//! let jobs = [Job { period: 5, budget: 1 }, Job { period: 9, budget: 7 }];
+//! let sheet = plan(&jobs, 1, 0)?;
+//! let within: Vec<u16> = sheet.tasks().map(|task| task.within).collect();
+//! assert_eq!(within, [4, 9]);
+//!
+//! let mut core = Core::start(&sheet, 0)?;
+//! core.release(0)?;
+//! core.release(1)?;
+//! assert_eq!(core.tick()?, Some(0)); // task 0 has its one tick, and so its job ends
+//! assert_eq!(core.tick()?, Some(1));
+//! core.finish(1)?; // this job ends with most of its budget unused
+//! assert_eq!(core.tick()?, None);
+//!
+//! let refusal = core.release(0).unwrap_err();
+//! assert_eq!(
+//!     refusal.to_string(),
+//!     "refused 18 (Early) at task 0: fewer ticks than its period since the task's last release"
+//! );
+//! # Ok(())
+//! # }
+//! ```
+//!
+//! # The library
+//!
+//! The crate links `target/staticlib/libcapi.a` of the repository, which `rt staticlib capi` writes for x86-64 Linux, or the file whose
+//! whole path is in the environment variable `HOMVAITS_LIB` at build time. Crate and library belong together: a number or place that
+//! only another version of the library can give is handed on as [`Word::Other`] or [`Place::Other`].
+//!
+//! No call panics, and none uses a heap, a global or std.
 
-mod layout {
-    use crate::sys::{Checked, Listed, Planned, Step, Ticked};
-    use crate::{Core, Task};
-    include!("layout.rs");
-}
+#![no_std]
+#![deny(missing_docs)]
 
-use std::fmt;
+#[cfg(test)]
+extern crate std;
 
-/// The least output of [`plan`]: the longest sheet.
+mod job;
+mod refusal;
+mod running;
+mod sheet;
+mod sys;
+
+pub use job::Job;
+pub use refusal::{Place, Refusal, Word};
+pub use running::{Core, Task};
+pub use sheet::{Sheet, SheetCore, SheetTask};
+
+/// Bytes of the longest sheet.
 pub const SHEET_MAX: usize = 712;
-/// The least output of the listing call.
-const TEXT_MAX: usize = 8192;
 
-/// A refusal: document 01's number and place (a task, 64 plus a core, a byte offset, or 0).
-#[derive(Clone, Copy, Debug, PartialEq, Eq)]
-pub struct Refusal {
-    pub number: u8,
-    pub place: u16,
-}
-
-impl fmt::Display for Refusal {
-    fn fmt(&self, f: &mut fmt::Formatter<'_>) -> fmt::Result {
-        write!(f, "refused {} place {}", self.number, self.place)
-    }
-}
-
-impl std::error::Error for Refusal {}
-
-/// A task of a running core.
-#[repr(C)]
-#[derive(Clone, Copy, Debug, Default, PartialEq, Eq)]
-pub struct Task {
-    pub period: u16,
-    pub budget: u16,
-    pub age: u16,
-    pub left: u16,
-    pub number: u8,
-}
-
-/// The state of a core. An operation gives the next state or a refusal, and the state that it was called on stays as it is.
-#[repr(C)]
-#[derive(Clone, Copy, Debug, PartialEq, Eq)]
-pub struct Core {
-    count: u64,
-    tasks: [Task; 64],
-}
+/// Bytes that are enough for every listing.
+pub const LISTING_MAX: usize = 8192;
 
 /// The counts of an accepted sheet.
-#[derive(Clone, Copy, Debug, PartialEq, Eq)]
+#[derive(Clone, Copy, Debug, PartialEq, Eq, Hash)]
+#[non_exhaustive]
 pub struct Counts {
+    /// How many tasks it has.
     pub tasks: u8,
+    /// How many cores it has.
     pub cores: u8,
 }
 
-mod sys {
-    use super::Core;
-
-    #[repr(C)]
-    pub struct Checked {
-        pub refusal: u8,
-        pub place: u16,
-        pub tasks: u8,
-        pub cores: u8,
-    }
-
-    #[repr(C)]
-    pub struct Planned {
-        pub refusal: u8,
-        pub place: u16,
-        pub tasks: u8,
-        pub cores: u8,
-        pub length: u16,
-    }
-
-    #[repr(C)]
-    pub struct Step {
-        pub refusal: u8,
-        pub place: u16,
-        pub core: Core,
-    }
-
-    #[repr(C)]
-    pub struct Ticked {
-        pub refusal: u8,
-        pub place: u16,
-        pub task: u8,
-        pub core: Core,
-    }
-
-    #[repr(C)]
-    pub struct Listed {
-        pub refusal: u8,
-        pub place: u16,
-        pub length: u16,
-    }
-
-    extern "C" {
-        pub fn homvaits_check(sheet: *const u8, len: usize) -> Checked;
-        pub fn homvaits_plan(
-            jobs: *const u8,
-            len: usize,
-            limit: u64,
-            start: u64,
-            out: *mut u8,
-            out_len: usize,
-        ) -> Planned;
-        pub fn homvaits_start(sheet: *const u8, len: usize, core: u64) -> Step;
-        pub fn homvaits_start_list(jobs: *const u8, len: usize) -> Step;
-        pub fn homvaits_release(core: Core, number: u64) -> Step;
-        pub fn homvaits_finish(core: Core, number: u64) -> Step;
-        pub fn homvaits_tick(core: Core) -> Ticked;
-        pub fn homvaits_list(sheet: *const u8, len: usize, out: *mut u8, out_len: usize) -> Listed;
-    }
-}
-
-fn refused(number: u8, place: u16) -> Result<(), Refusal> {
-    if number == 0 {
-        Ok(())
-    } else {
-        Err(Refusal { number, place })
-    }
-}
-
-/// Checks a sheet.
-pub fn check(sheet: &[u8]) -> Result<Counts, Refusal> {
-    let r = unsafe { sys::homvaits_check(sheet.as_ptr(), sheet.len()) };
-    refused(r.refusal, r.place)?;
+/// Checks bytes without a copy. [`Sheet::check`] keeps what is accepted.
+///
+/// # Errors
+///
+/// The first rule that is broken, in the order of the numbers 1 to 14 ([`Word::Stub`] to [`Word::Overload`]).
+pub fn check(bytes: &[u8]) -> Result<Counts, Refusal> {
+    // SAFETY: pointer and length are of one slice, which is only read.
+    let answer = unsafe { sys::homvaits_check(bytes.as_ptr(), bytes.len()) };
+    Refusal::unless_zero(answer.refusal, answer.place)?;
     Ok(Counts {
-        tasks: r.tasks,
-        cores: r.cores,
+        tasks: answer.tasks,
+        cores: answer.cores,
     })
 }
 
-/// A job list's bytes: period and budget of each task, low byte first.
-pub fn job_list(jobs: &[(u16, u16)]) -> Vec<u8> {
-    jobs.iter()
-        .flat_map(|&(p, e)| [p.to_le_bytes(), e.to_le_bytes()].concat())
-        .collect()
-}
-
-/// Plans a job list on at most `limit` cores, walking the ring from `start`. The sheet is returned.
-pub fn plan(jobs: &[u8], limit: u64, start: u64) -> Result<Vec<u8>, Refusal> {
+/// Plans a job list on at most `limit` cores (0 to 8), walking the ring of the jobs from position `start`. Another start may find
+/// another plan. A job's place in the list is its task number.
+///
+/// # Errors
+///
+/// In this order: [`Word::Count`] over 64 jobs or with a limit above 8; [`Word::Period`] and [`Word::Budget`], with the task, where a
+/// job is out of range; [`Word::Start`] if the start is not below the number of jobs (not 0 where there are none); [`Word::NoFit`],
+/// with the task that found no core.
+pub fn plan(jobs: &[Job], limit: u8, start: usize) -> Result<Sheet, Refusal> {
+    let list = Job::list(jobs);
+    let list = list.as_bytes();
     let mut out = [0; SHEET_MAX];
-    let r = unsafe {
+    // SAFETY: each pointer stands with the length of its own slice; the output is a local that no other slice overlaps.
+    let answer = unsafe {
         sys::homvaits_plan(
-            jobs.as_ptr(),
-            jobs.len(),
-            limit,
-            start,
+            list.as_ptr(),
+            list.len(),
+            u64::from(limit),
+            start as u64,
             out.as_mut_ptr(),
             out.len(),
         )
     };
-    refused(r.refusal, r.place)?;
-    Ok(out[..r.length as usize].to_vec())
+    Refusal::unless_zero(answer.refusal, answer.place)?;
+    Ok(Sheet::accepted(out, answer.length))
 }
 
-/// The listing of a sheet; a refused sheet has one too.
-pub fn list(sheet: &[u8]) -> String {
-    let mut out = vec![0; TEXT_MAX];
-    let r = unsafe { sys::homvaits_list(sheet.as_ptr(), sheet.len(), out.as_mut_ptr(), out.len()) };
-    out.truncate(r.length as usize);
-    String::from_utf8(out).expect("a listing is ASCII")
-}
-
-impl Core {
-    /// The fresh state of a core of an accepted sheet: its jobs all end on time.
-    pub fn start(sheet: &[u8], core: u64) -> Result<Core, Refusal> {
-        let r = unsafe { sys::homvaits_start(sheet.as_ptr(), sheet.len(), core) };
-        refused(r.refusal, r.place).map(|()| r.core)
-    }
-
-    /// The fresh state of a job list, which nothing promises to fit.
-    pub fn start_list(jobs: &[u8]) -> Result<Core, Refusal> {
-        let r = unsafe { sys::homvaits_start_list(jobs.as_ptr(), jobs.len()) };
-        refused(r.refusal, r.place).map(|()| r.core)
-    }
-
-    /// The tasks in priority order.
-    pub fn tasks(&self) -> &[Task] {
-        &self.tasks[..self.count as usize]
-    }
-
-    /// A job of the task begins.
-    pub fn release(self, number: u64) -> Result<Core, Refusal> {
-        let r = unsafe { sys::homvaits_release(self, number) };
-        refused(r.refusal, r.place).map(|()| r.core)
-    }
-
-    /// The task's job ends.
-    pub fn finish(self, number: u64) -> Result<Core, Refusal> {
-        let r = unsafe { sys::homvaits_finish(self, number) };
-        refused(r.refusal, r.place).map(|()| r.core)
-    }
-
-    /// One tick: the task that got it, if any was pending, and the next state.
-    pub fn tick(self) -> Result<(Option<u8>, Core), Refusal> {
-        let r = unsafe { sys::homvaits_tick(self) };
-        refused(r.refusal, r.place)?;
-        Ok(((r.task != 255).then_some(r.task), r.core))
-    }
+/// The listing of any bytes, in a lent buffer. A refused sheet has a listing too, one line such as `refused 14 place 64`.
+///
+/// ```
+/// let mut out = [0; homvaits::LISTING_MAX];
+/// assert_eq!(homvaits::list(b"TSH", &mut out), "refused 1 place 0\n");
+/// ```
+#[must_use]
+pub fn list<'a>(bytes: &[u8], out: &'a mut [u8; LISTING_MAX]) -> &'a str {
+    // SAFETY: each pointer stands with the length of its own slice, and a slice lent for writing overlaps no other.
+    let answer =
+        unsafe { sys::homvaits_list(bytes.as_ptr(), bytes.len(), out.as_mut_ptr(), out.len()) };
+    // a listing is ASCII and fits, so neither default is ever taken
+    let text = out.get(..usize::from(answer.length)).unwrap_or_default();
+    core::str::from_utf8(text).unwrap_or_default()
 }

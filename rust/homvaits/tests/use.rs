@@ -1,113 +1,147 @@
-//! The wrapper on cards of document 01.
-use homvaits::{check, job_list, list, plan, Core, Refusal, Task};
+//! The wrapper as a set uses it.
+
+use homvaits::{check, list, plan, Core, Job, Place, Refusal, Sheet, Word, LISTING_MAX};
+
+const JOBS: [Job; 2] = [job(5, 1), job(9, 7)];
 
 const LISTING: &str = "TSH 1 tasks 2 cores 1\n\
 task 0 core 0 period 5 budget 1 factor 1 within 4\n\
 task 1 core 0 period 9 budget 7 factor 2 within 9\n\
 core 0 pivot 9 divisor 2 load 1000\n";
 
+const fn job(period: u16, budget: u16) -> Job {
+    Job { period, budget }
+}
+
+fn refusal(word: Word, place: Place) -> Refusal {
+    Refusal { word, place }
+}
+
+/// Age and ticks left of each task, in priority order.
+fn ages(core: &Core) -> Vec<(u16, u16)> {
+    core.tasks().iter().map(|t| (t.age, t.left)).collect()
+}
+
 #[test]
 fn a_plan_is_checked_listed_and_run() {
-    let sheet = plan(&job_list(&[(5, 1), (9, 7)]), 1, 0).unwrap();
-    let counts = check(&sheet).unwrap();
+    let sheet = plan(&JOBS, 1, 0).unwrap();
+    let counts = check(sheet.as_bytes()).unwrap();
     assert_eq!((counts.tasks, counts.cores), (2, 1));
-    assert_eq!(list(&sheet), LISTING);
+    assert_eq!(list(sheet.as_bytes(), &mut [0; LISTING_MAX]), LISTING);
 
     let mut core = Core::start(&sheet, 0).unwrap();
     let second = core.tasks()[1];
+    assert_eq!((second.period, second.budget, second.number), (9, 7, 1));
     assert_eq!(
-        (
-            second.period,
-            second.budget,
-            second.age,
-            second.left,
-            second.number
-        ),
-        (9, 7, 9, 0, 1)
+        (second.age, second.left, second.is_pending()),
+        (9, 0, false)
     );
-    core = core.release(0).unwrap().release(1).unwrap();
+    core.release(0).unwrap();
+    core.release(1).unwrap();
+    assert!(core.tasks().iter().all(|t| t.is_pending()));
     let mut served = Vec::new();
     for i in 0..10 {
         if i == 5 {
-            core = core.release(0).unwrap();
+            core.release(0).unwrap();
         }
-        let (task, next) = core.tick().unwrap();
-        served.push(task);
-        core = next;
+        served.push(core.tick().unwrap());
     }
-    let expected = [0, 1, 1, 1, 1, 0, 1, 1, 1].map(Some);
-    assert_eq!(served[..9], expected);
+    assert_eq!(served[..9], [0, 1, 1, 1, 1, 0, 1, 1, 1].map(Some));
     assert_eq!(served[9], None);
-    assert!(core.tasks().iter().all(|t| t.left == 0));
+    assert!(core.tasks().iter().all(|t| !t.is_pending()));
 }
 
 #[test]
 fn a_job_ends_before_its_budget_is_used() {
-    let sheet = plan(&job_list(&[(5, 1), (9, 7)]), 1, 0).unwrap();
-    let core = Core::start(&sheet, 0).unwrap().release(1).unwrap();
-    let (task, core) = core.tick().unwrap();
-    assert_eq!(task, Some(1));
-    let before = core.tasks();
-    assert_eq!((before[1].age, before[1].left), (1, 6));
-    let core = core.finish(1).unwrap();
-    // the age stands, and so does the other task
-    let expected = [
-        before[0],
-        Task {
-            left: 0,
-            ..before[1]
-        },
-    ];
-    assert_eq!(core.tasks(), expected);
-    let quiet = Refusal {
-        number: 20,
-        place: 1,
-    };
+    let sheet = plan(&JOBS, 1, 0).unwrap();
+    let mut core = Core::start(&sheet, 0).unwrap();
+    core.release(1).unwrap();
+    assert_eq!(core.tick(), Ok(Some(1)));
+    assert_eq!(ages(&core), [(5, 0), (1, 6)]);
+    core.finish(1).unwrap();
+    // the age stands
+    assert_eq!(ages(&core), [(5, 0), (1, 0)]);
+    let quiet = refusal(Word::Quiet, Place::Task(1));
     assert_eq!(core.finish(1), Err(quiet));
-    assert_eq!(core.tick().unwrap().0, None);
+    assert_eq!(core.tick(), Ok(None));
+}
+
+/// A call on the core is refused so, and the core stays as it was.
+#[track_caller]
+fn left(core: &mut Core, call: fn(&mut Core) -> Result<(), Refusal>, word: Word, place: Place) {
+    let before = core.clone();
+    assert_eq!(call(core), Err(refusal(word, place)));
+    assert_eq!(*core, before);
 }
 
 #[test]
-fn refusals_have_number_and_place() {
-    assert_eq!(
-        check(b"TSH"),
-        Err(Refusal {
-            number: 1,
-            place: 0
-        })
-    );
-    assert_eq!(list(b"TSH"), "refused 1 place 0\n");
-    assert_eq!(
-        plan(&job_list(&[(10, 4), (15, 9)]), 1, 0),
-        Err(Refusal {
-            number: 15,
-            place: 1
-        })
-    );
-    let core = Core::start_list(&job_list(&[(5, 2)])).unwrap();
-    assert_eq!(
-        core.release(3),
-        Err(Refusal {
-            number: 17,
-            place: 0
-        })
-    );
-    assert_eq!(
-        core.finish(0),
-        Err(Refusal {
-            number: 20,
-            place: 0
-        })
-    );
-    assert_eq!(
-        core.release(0).unwrap().release(0),
-        Err(Refusal {
-            number: 18,
-            place: 0
-        })
-    );
-    assert_eq!(
-        Core::start(b"", 0).unwrap_err().to_string(),
-        "refused 1 place 0"
-    );
+fn a_refused_call_leaves_the_core() {
+    // on the bench, where task 1 gets only 3 of its 4 ticks in time
+    let mut core = Core::start_list(&[job(5, 2), job(7, 4)]).unwrap();
+    left(&mut core, |c| c.finish(0), Word::Quiet, Place::Task(0));
+    left(&mut core, |c| c.finish(2), Word::Unlisted, Place::Whole);
+    left(&mut core, |c| c.release(255), Word::Unlisted, Place::Whole);
+    core.release(0).unwrap();
+    core.release(1).unwrap();
+    for i in 0..7 {
+        if i == 4 {
+            left(&mut core, |c| c.release(0), Word::Early, Place::Task(0));
+        }
+        if i == 5 {
+            core.release(0).unwrap();
+        }
+        core.tick().unwrap();
+    }
+    left(&mut core, |c| c.release(1), Word::Late, Place::Task(1));
+}
+
+#[test]
+fn clones_go_their_own_ways() {
+    let mut core = Core::start(&plan(&JOBS, 1, 0).unwrap(), 0).unwrap();
+    let mut other = core.clone();
+    core.release(0).unwrap();
+    assert_eq!(other.tick(), Ok(None));
+    assert_eq!(core.tick(), Ok(Some(0)));
+}
+
+#[test]
+fn jobs_are_four_bytes() {
+    let entry = job(0x1234, 0xABCD);
+    assert_eq!(entry.to_bytes(), [0x34, 0x12, 0xCD, 0xAB]);
+    assert_eq!(Job::from_bytes(entry.to_bytes()), entry);
+}
+
+#[test]
+fn sixty_four_jobs_are_taken_and_sixty_five_are_not() {
+    let count = Err(refusal(Word::Count, Place::Whole));
+    for n in [0, 1, 63, 64] {
+        let jobs = vec![job(60_000, 1); n];
+        assert_eq!(plan(&jobs, 8, 0).unwrap().tasks().len(), n);
+        assert_eq!(Core::start_list(&jobs).unwrap().tasks().len(), n);
+    }
+    for n in [65, 66, 1000] {
+        let jobs = vec![job(60_000, 1); n];
+        assert_eq!(plan(&jobs, 8, 0).map(|_| ()), count);
+        assert_eq!(Core::start_list(&jobs).map(|_| ()), count);
+    }
+    // before a job out of range, as the library has it
+    assert_eq!(plan(&[job(0, 0); 65], 8, 0).map(|_| ()), count);
+}
+
+#[test]
+fn an_empty_sheet_has_no_core_to_start() {
+    let sheet = plan(&[], 0, 0).unwrap();
+    assert_eq!(sheet, Sheet::check(b"TSH\x01\x00\x00\x00\x00").unwrap());
+    assert_eq!((sheet.tasks().len(), sheet.cores().len()), (0, 0));
+    let missing = refusal(Word::Core, Place::Whole);
+    assert_eq!(Core::start(&sheet, 0), Err(missing));
+    assert_eq!(Core::start_list(&[]).unwrap().tasks(), []);
+}
+
+#[test]
+fn sheets_and_cores_go_between_threads() {
+    fn moves<T: Send + Sync + Clone>() {}
+    moves::<Sheet>();
+    moves::<Core>();
+    moves::<Refusal>();
 }

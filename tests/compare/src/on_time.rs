@@ -1,4 +1,4 @@
-//! The on-time rule of document 01, told by calls and answers alone.
+//! The on-time rule, told by calls and answers alone (docs/SHEET.md, section 7).
 
 use inputs::Call;
 

@@ -5,8 +5,8 @@ use reference::{start_list, Core, Task};
 
 pub const CORE_DAMAGES: usize = 12;
 
-/// A state in which ages and ticks left are in range. Kind 0 leaves it so;
-/// every other kind changes one thing, which may break its form.
+/// A state in form with any ages and ticks left. Kind 0 leaves it so; every
+/// other kind changes one thing, which may break its form.
 pub fn any_core(rng: &mut Rng, kind: usize) -> Core {
     let mut core = sound_core(rng);
     damage(rng, &mut core, kind);

@@ -34,8 +34,8 @@ pub fn planned_sheet(rng: &mut Rng) -> Vec<u8> {
     }
 }
 
-/// An accepted sheet with figures of every size, its cores often full to the
-/// last tick.
+/// An accepted sheet with figures of every size, the load of its cores often
+/// one or just below.
 pub fn handmade_sheet(rng: &mut Rng) -> Vec<u8> {
     let core_count = if rng.once_in(2) { 1 } else { rng.range(1, 8) };
     let (mut tasks, mut cores) = (Vec::new(), Vec::new());

@@ -1,6 +1,7 @@
-//! Document 01 (timing sheets) as plain Rust. It is written from the document
-//! alone, for clarity and not for speed, and is total: any bytes, any numbers
-//! and any state have an answer. All arithmetic is exact.
+//! Timing sheets as plain Rust, written from document 01, which docs/SHEET.md
+//! says in our words, and from the readings of its open sentences, not from
+//! the verified code. It is for clarity and not for speed, and is total: any
+//! bytes, any numbers and any state have an answer. All arithmetic is exact.
 
 mod answers;
 mod checker;
@@ -20,13 +21,13 @@ pub use listing::{list, list_into, LISTING_ROOM};
 pub use planner::{dct, plan, ring_order, sr, Construction};
 pub use sheet::{CoreRecord, Sheet, TaskRecord, LONGEST_SHEET};
 
-/// Document 01's ranges.
+/// The ranges of counts, periods and factors (docs/SHEET.md, section 2).
 pub const MOST_TASKS: usize = 64;
 pub const MOST_CORES: usize = 8;
 pub const LONGEST_PERIOD: u64 = 60_000;
 pub const LARGEST_FACTOR: u64 = 120_000;
 
-/// A refusal: document 01's number and the place.
+/// A refusal: its number (docs/SHEET.md, section 9) and its place.
 #[derive(Clone, Copy, Debug, PartialEq, Eq)]
 pub struct Refusal {
     pub number: u8,

@@ -1,4 +1,4 @@
-//! Cards A to M of document 01.
+//! The bench cards A to M of document 01: small inputs and what they must give.
 
 use reference::*;
 

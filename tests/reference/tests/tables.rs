@@ -1,4 +1,4 @@
-//! Tables 2 and 3 of source document 001.
+//! Tables 2 to 4 of the paper on accelerated simply periodic sets.
 
 use reference::*;
 
@@ -18,7 +18,7 @@ fn accelerated_periods() {
     assert_eq!(dct(&periods, 2), fractions([(17, 10), (17, 2), (17, 1)]));
 }
 
-/// Table 3.
+/// Table 3: ten tasks.
 const TASKS: [(u16, u16); 10] = [
     (7, 2),
     (21, 3),
@@ -88,7 +88,8 @@ fn count(mut sizes: [u32; 3], passes: &dyn Fn(u16) -> bool) -> (u32, u32) {
     (all, passed)
 }
 
-/// The three partitions of Table 4 that pass, and how many there are.
+/// Table 4: for each of three sizes of groups, how many partitions there are
+/// and how many of them pass.
 fn counts(passes: &dyn Fn(u16) -> bool) -> [(u32, u32); 3] {
     [[4, 3, 3], [4, 4, 2], [5, 3, 2]].map(|sizes| count(sizes, passes))
 }

@@ -6,6 +6,7 @@ use Rattle.jobtext.proofs.read_jobs.Tie as tie
 use Rattle.jobtext.proofs.read_jobs.Reads as reads
 use Rattle.jobtext.proofs.read_jobs.Lts as lts
 use Rattle.jobtext.proofs.copy.Reads as copy-reads
+use Rattle.jobtext.proofs.find_fault.Reads as find-fault-reads
 use Rattle.jobtext.proofs.read_all.Reads as read-all-reads
 use Rattle.jobtext.proofs.room_in.Reads as room-in-reads
 
@@ -14,6 +15,9 @@ room-in-requires c κs = search needs
 
 read-all-requires : tie.Need-read-all-requires
 read-all-requires c κs = search needs
+
+find-fault-requires : tie.Need-find-fault-requires
+find-fault-requires c κs = search needs
 
 returns : tie.Need-returns
 returns c = (search wrong-answer, search wrong-bytes)
@@ -27,8 +31,8 @@ slice-aggregate-copy c = search needs
 copy-requires : tie.Need-copy-requires
 copy-requires c κs = (search needs, omega (arith, slice-aggregate-copy c))
 
-cast-t14 : tie.Need-cast-t14
-cast-t14 c = search needs
+cast-t15 : tie.Need-cast-t15
+cast-t15 c = search needs
 
 same-length : tie.Need-same-length
 same-length c = search needs
@@ -42,10 +46,11 @@ read-jobs-spec =
     (tie.spec
     room-in-requires
     read-all-requires
+    find-fault-requires
     returns
     mul-n
     slice-aggregate-copy
     copy-requires
-    cast-t14
+    cast-t15
     same-length
     returns-2)

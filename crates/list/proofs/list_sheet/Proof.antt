@@ -1,28 +1,15 @@
 use borrow.Author.Needs.{needs}
 use Rattle.listing.proofs.Sheets.{listed-room, listed-front}
-use Rattle.list.proofs.main.Statement.{statement}
-use Rattle.list.proofs.main.Tie as tie
-use Rattle.list.proofs.main.Reads as reads
-use Rattle.list.proofs.main.Lts as lts
-use Rattle.io.proofs.read_full.Reads as read-full-reads
+use Rattle.list.proofs.list_sheet.Statement.{statement}
+use Rattle.list.proofs.list_sheet.Tie as tie
+use Rattle.list.proofs.list_sheet.Reads as reads
+use Rattle.list.proofs.list_sheet.Lts as lts
 use Rattle.io.proofs.write_all.Reads as write-all-reads
 use Rattle.listing.proofs.list_sheet.Reads as list-sheet-reads
 use Rattle.os.proofs.fail.Reads as fail-reads
 
-slice-aggregate-read-full : tie.Need-slice-aggregate-read-full
-slice-aggregate-read-full c = search needs
-
-read-full-requires : tie.Need-read-full-requires
-read-full-requires c κs = search needs
-
-array-share-prefix-sheet : tie.Need-array-share-prefix-sheet
-array-share-prefix-sheet c = search needs
-
 slice-aggregate-list-sheet : tie.Need-slice-aggregate-list-sheet
 slice-aggregate-list-sheet c = search needs
-
-slice-aggregate-list-sheet-2 : tie.Need-slice-aggregate-list-sheet-2
-slice-aggregate-list-sheet-2 c = search needs
 
 list-sheet-requires : tie.Need-list-sheet-requires
 list-sheet-requires c κs = search needs
@@ -60,15 +47,11 @@ returns-2 c = search needs
 returns-3 : tie.Need-returns-3
 returns-3 c = search needs
 
-pub main-spec : {M : Type 1} → statement M
-main-spec =
+pub list-sheet-spec : {M : Type 1} → statement M
+list-sheet-spec =
     tie.close
     (tie.spec
-    slice-aggregate-read-full
-    read-full-requires
-    array-share-prefix-sheet
     slice-aggregate-list-sheet
-    slice-aggregate-list-sheet-2
     list-sheet-requires
     enum-known-listed
     cast-end

@@ -1,0 +1,217 @@
+use core::error::Error;
+use core::fmt;
+
+/// Why a call was refused: a word, which has a number, and a place.
+///
+/// Shown as text it is one line, such as
+/// `refused 14 (Overload) at core 0: the core has more work than time`.
+#[derive(Clone, Copy, Debug, PartialEq, Eq, Hash)]
+pub struct Refusal {
+    /// Which rule is broken.
+    pub word: Word,
+    /// Where it is broken first.
+    pub place: Place,
+}
+
+/// Where a rule is broken. [`Place::number`] is the place as the library and the listing give it.
+#[derive(Clone, Copy, Debug, PartialEq, Eq, Hash)]
+#[non_exhaustive]
+pub enum Place {
+    /// No single place; number 0.
+    Whole,
+    /// A task, by its number.
+    Task(u8),
+    /// A core, by its number; 64 more in [`Place::number`].
+    Core(u8),
+    /// A byte of the sheet, by its offset.
+    Offset(u16),
+    /// A place that this crate cannot read, as the library gave it. It comes with a library of another version only.
+    Other(u16),
+}
+
+impl Place {
+    /// The place as a number: a task number, 64 plus a core number, a byte offset, or 0.
+    #[must_use]
+    pub const fn number(self) -> u16 {
+        match self {
+            Place::Whole => 0,
+            Place::Task(task) => task as u16,
+            Place::Core(core) => 64 + core as u16,
+            Place::Offset(number) | Place::Other(number) => number,
+        }
+    }
+}
+
+/// What the place of a word is.
+enum Kind {
+    Whole,
+    Task,
+    Core,
+    TaskOrCore,
+    Offset,
+    Unknown,
+}
+
+impl Kind {
+    fn place(self, number: u16) -> Place {
+        match (self, number) {
+            (Kind::Whole, 0) => Place::Whole,
+            (Kind::Offset, _) => Place::Offset(number),
+            (Kind::Task | Kind::TaskOrCore, 0..=63) => Place::Task(number as u8),
+            (Kind::Core | Kind::TaskOrCore, 64..=71) => Place::Core((number - 64) as u8),
+            _ => Place::Other(number),
+        }
+    }
+}
+
+macro_rules! words {
+    ($($number:literal $word:ident $name:literal $kind:ident $text:literal)+) => {
+        /// The word of a refusal: the rule that is broken. `docs/SHEET.md`, section 9, has the table.
+        #[derive(Clone, Copy, Debug, PartialEq, Eq, Hash)]
+        #[non_exhaustive]
+        pub enum Word {
+            $(#[doc = concat!($number, " ", $name, ": ", $text, ".")] $word,)+
+            /// A number that this crate does not know. It comes with a library of another version only.
+            Other(u8),
+        }
+
+        impl Word {
+            const fn of(number: u8) -> Word {
+                match number {
+                    $($number => Word::$word,)+
+                    _ => Word::Other(number),
+                }
+            }
+
+            /// The number of the word, 1 to 22.
+            #[must_use]
+            pub const fn number(self) -> u8 {
+                match self {
+                    $(Word::$word => $number,)+
+                    Word::Other(number) => number,
+                }
+            }
+
+            /// The word itself, such as `No fit`.
+            #[must_use]
+            pub const fn name(self) -> &'static str {
+                match self {
+                    $(Word::$word => $name,)+
+                    Word::Other(_) => "unknown",
+                }
+            }
+
+            /// What the word says, such as `the core has more work than time`.
+            #[must_use]
+            pub const fn text(self) -> &'static str {
+                match self {
+                    $(Word::$word => $text,)+
+                    Word::Other(_) => "the library is of another version",
+                }
+            }
+
+            const fn kind(self) -> Kind {
+                match self {
+                    $(Word::$word => Kind::$kind,)+
+                    Word::Other(_) => Kind::Unknown,
+                }
+            }
+        }
+    };
+}
+
+words! {
+    1 Stub "Stub" Whole "there are fewer than 8 bytes"
+    2 Mark "Mark" Whole "the bytes do not begin with T S H"
+    3 Version "Version" Whole "the version is not 1"
+    4 Count "Count" Whole "there are over 64 tasks, over 8 cores or a core limit above 8"
+    5 Length "Length" Whole "the length is not the one that the counts give"
+    6 Spare "Spare" Offset "a spare byte is not zero"
+    7 Period "Period" Task "the period is not 1 to 60,000"
+    8 Budget "Budget" Task "the budget is 0 or above the period"
+    9 Core "Core" Task "there is no such core"
+    10 Bare "Bare" Core "the core has no task"
+    11 Factor "Factor" TaskOrCore "a factor or divisor is not 1 to 120,000, or a pivot not 1 to 60,000"
+    12 Stretch "Stretch" Task "the accelerated period is longer than the period"
+    13 Chain "Chain" Task "the factor is no multiple of the one before it by priority"
+    14 Overload "Overload" Core "the core has more work than time"
+    15 NoFit "No fit" Task "the planner finds no core for the task"
+    16 Tight "Tight" Whole "the output is too short"
+    17 Unlisted "Unlisted" Whole "the core has no such task"
+    18 Early "Early" Task "fewer ticks than its period since the task's last release"
+    19 Late "Late" Task "the task's last job is still pending"
+    20 Quiet "Quiet" Task "the task has no pending job"
+    21 Foreign "Foreign" Whole "the state is damaged"
+    22 Start "Start" Whole "the start is no position in the ring"
+}
+
+impl Refusal {
+    pub(crate) fn of(number: u8, place: u16) -> Refusal {
+        let word = Word::of(number);
+        Refusal {
+            word,
+            place: word.kind().place(place),
+        }
+    }
+
+    /// The refusal of an answer, if its number is not 0.
+    pub(crate) fn unless_zero(number: u8, place: u16) -> Result<(), Refusal> {
+        match number {
+            0 => Ok(()),
+            _ => Err(Refusal::of(number, place)),
+        }
+    }
+
+    /// The number of the word, 1 to 22. The place's is [`Place::number`].
+    #[must_use]
+    pub const fn number(self) -> u8 {
+        self.word.number()
+    }
+}
+
+impl fmt::Display for Refusal {
+    fn fmt(&self, f: &mut fmt::Formatter<'_>) -> fmt::Result {
+        write!(f, "refused {} ({})", self.number(), self.word.name())?;
+        match self.place {
+            Place::Whole => {}
+            Place::Task(task) => write!(f, " at task {task}")?,
+            Place::Core(core) => write!(f, " at core {core}")?,
+            Place::Offset(offset) => write!(f, " at byte {offset}")?,
+            Place::Other(number) => write!(f, " at place {number}")?,
+        }
+        write!(f, ": {}", self.word.text())
+    }
+}
+
+impl Error for Refusal {}
+
+#[cfg(test)]
+mod tests {
+    use super::*;
+    use std::string::ToString;
+
+    #[test]
+    fn every_number_and_place_of_any_library_is_kept() {
+        for number in 1..=255 {
+            for place in 0..=u16::MAX {
+                let refusal = Refusal::of(number, place);
+                assert_eq!((refusal.number(), refusal.place.number()), (number, place));
+            }
+            let known = !matches!(Word::of(number), Word::Other(_));
+            assert_eq!(known, number <= 22);
+        }
+        assert_eq!(Refusal::unless_zero(0, 0), Ok(()));
+    }
+
+    #[test]
+    fn what_only_another_library_gives_is_shown_as_it_came() {
+        assert_eq!(
+            Refusal::of(23, 70).to_string(),
+            "refused 23 (unknown) at place 70: the library is of another version"
+        );
+        assert_eq!(Refusal::of(1, 70).place, Place::Other(70));
+        assert_eq!(Refusal::of(7, 64).place, Place::Other(64));
+        assert_eq!(Refusal::of(14, 72).place, Place::Other(72));
+        assert_eq!(Refusal::of(14, 63).place, Place::Other(63));
+    }
+}

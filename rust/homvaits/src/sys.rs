@@ -1,0 +1,76 @@
+//! The C interface, as `include/homvaits.h` declares it.
+
+use crate::Task;
+
+#[repr(C)]
+#[derive(Clone, Copy, PartialEq, Eq, Hash)]
+pub struct Core {
+    pub count: u64,
+    pub tasks: [Task; 64],
+}
+
+#[repr(C)]
+pub struct Checked {
+    pub refusal: u8,
+    pub place: u16,
+    pub tasks: u8,
+    pub cores: u8,
+}
+
+#[repr(C)]
+pub struct Planned {
+    pub refusal: u8,
+    pub place: u16,
+    pub tasks: u8,
+    pub cores: u8,
+    pub length: u16,
+}
+
+#[repr(C)]
+pub struct Step {
+    pub refusal: u8,
+    pub place: u16,
+    pub core: Core,
+}
+
+#[repr(C)]
+pub struct Ticked {
+    pub refusal: u8,
+    pub place: u16,
+    pub task: u8,
+    pub core: Core,
+}
+
+#[repr(C)]
+pub struct Listed {
+    pub refusal: u8,
+    pub place: u16,
+    pub length: u16,
+}
+
+/// The task of a tick that no task has.
+pub const IDLE: u8 = 255;
+
+extern "C" {
+    pub fn homvaits_check(sheet: *const u8, len: usize) -> Checked;
+    pub fn homvaits_plan(
+        jobs: *const u8,
+        len: usize,
+        limit: u64,
+        start: u64,
+        out: *mut u8,
+        out_len: usize,
+    ) -> Planned;
+    pub fn homvaits_start(sheet: *const u8, len: usize, core: u64) -> Step;
+    pub fn homvaits_start_list(jobs: *const u8, len: usize) -> Step;
+    pub fn homvaits_release(core: Core, task: u64) -> Step;
+    pub fn homvaits_finish(core: Core, task: u64) -> Step;
+    pub fn homvaits_tick(core: Core) -> Ticked;
+    pub fn homvaits_list(sheet: *const u8, len: usize, out: *mut u8, out_len: usize) -> Listed;
+}
+
+mod layout {
+    use super::{Checked, Core, Listed, Planned, Step, Ticked};
+    use crate::Task;
+    include!("layout.rs");
+}

@@ -1,0 +1,88 @@
+//! The typed records of a sheet are held to the proved listing.
+
+mod common;
+
+use std::fmt::Write;
+
+use common::{sheets, Rng};
+use homvaits::{check, list, Sheet, LISTING_MAX};
+
+fn text_of(sheet: &Sheet) -> String {
+    let mut text = String::new();
+    let (tasks, cores) = (sheet.tasks(), sheet.cores());
+    writeln!(text, "TSH 1 tasks {} cores {}", tasks.len(), cores.len()).unwrap();
+    for t in tasks {
+        writeln!(
+            text,
+            "task {} core {} period {} budget {} factor {} within {}",
+            t.number, t.core, t.period, t.budget, t.factor, t.within
+        )
+        .unwrap();
+    }
+    for c in cores {
+        writeln!(
+            text,
+            "core {} pivot {} divisor {} load {}",
+            c.number, c.pivot, c.divisor, c.load
+        )
+        .unwrap();
+    }
+    text
+}
+
+#[test]
+fn tasks_and_cores_are_those_of_the_listing() {
+    let mut out = [0; LISTING_MAX];
+    let (mut full, mut largest, mut longest) = (0, 0, 0);
+    let (planned, made) = sheets(1, |sheet| {
+        assert_eq!(text_of(&sheet), list(sheet.as_bytes(), &mut out));
+        full += sheet.cores().filter(|core| core.load == 1000).count();
+        largest = sheet
+            .tasks()
+            .map(|task| task.factor)
+            .fold(largest, u32::max);
+        longest = longest.max(sheet.as_bytes().len());
+    });
+    println!(
+        "{planned} planned, {made} made, {full} full cores, factors to {largest}, {longest} bytes"
+    );
+    assert!(planned > 2000 && made > 1000);
+    assert!(full > 0 && largest > 100_000 && longest > 600);
+}
+
+#[test]
+fn a_checked_sheet_has_the_bytes_it_was_checked_from() {
+    sheets(2, |sheet| {
+        let bytes = sheet.as_bytes();
+        assert_eq!(Sheet::check(bytes).unwrap(), sheet);
+        assert_eq!(Sheet::try_from(bytes).unwrap().as_ref(), bytes);
+        let counts = check(bytes).unwrap();
+        assert_eq!(usize::from(counts.tasks), sheet.tasks().len());
+        assert_eq!(usize::from(counts.cores), sheet.cores().len());
+    });
+}
+
+#[test]
+fn a_damaged_sheet_is_refused_as_its_listing_says() {
+    let mut rng = Rng(3);
+    let mut out = [0; LISTING_MAX];
+    let mut seen = [0; 23];
+    sheets(4, |sheet| {
+        let mut bytes = sheet.as_bytes().to_vec();
+        let at = rng.range(0, bytes.len() as u64 - 1) as usize;
+        let top = [7, 255][rng.range(0, 1) as usize];
+        bytes[at] = rng.range(0, top) as u8;
+        if let Err(refusal) = Sheet::check(&bytes) {
+            let line = format!(
+                "refused {} place {}\n",
+                refusal.number(),
+                refusal.place.number()
+            );
+            assert_eq!(list(&bytes, &mut out), line);
+            assert_eq!(check(&bytes).unwrap_err(), refusal);
+            seen[usize::from(refusal.number())] += 1;
+        }
+    });
+    println!("refusals by number: {seen:?}");
+    assert!(seen.iter().filter(|&&times| times > 0).count() > 9);
+}

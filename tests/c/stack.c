@@ -1,0 +1,96 @@
+/* The stack that each call uses on large inputs, an accepted and a refused sheet among them. A call runs on a painted stack; the deepest
+ * byte that lost its paint tells how much it took, with its return address and with a state that is handed in by value. */
+#define _XOPEN_SOURCE 700
+#include "homvaits.h"
+
+#include <assert.h>
+#include <stdio.h>
+#include <string.h>
+#include <ucontext.h>
+
+enum { SIZE = 1 << 16, PAINT = 0xa5, BOUND = 8192, JOBS = 64 };
+
+/* Stands in for a call, to tell where the return address lies. It hands back the place of a large answer, as the ABI asks. */
+void nothing(void);
+__asm__(".globl nothing\nnothing: mov %rdi, %rax\n ret\n.section .note.GNU-stack,\"\"\n.text");
+
+#define CALLS(X) X(check, 0) X(plan, 0) X(start, 0) X(start_list, 0) X(release, 1) X(finish, 1) X(tick, 1) X(list, 0)
+
+/* Called through these, so that a caller's frame is the same whatever stands there. */
+#define POINTER(name, by_value) static __typeof__(homvaits_##name) *volatile name = homvaits_##name;
+CALLS(POINTER)
+
+static _Alignas(16) uint8_t stack[SIZE];
+static ucontext_t here, there;
+static uint8_t jobs[4 * JOBS], good[HOMVAITS_SHEET_MAX], sheet[HOMVAITS_SHEET_MAX], text[HOMVAITS_TEXT_MAX];
+static homvaits_checked checked;
+static homvaits_planned planned;
+static homvaits_step step;
+static homvaits_ticked ticked;
+static homvaits_listed listed;
+static homvaits_core fresh, busy;
+
+static void run_check(void) { checked = check(sheet, sizeof sheet); }
+static void run_plan(void) { planned = plan(jobs, sizeof jobs, 8, 0, sheet, sizeof sheet); }
+static void run_start(void) { step = start(sheet, sizeof sheet, 0); }
+static void run_start_list(void) { step = start_list(jobs, sizeof jobs); }
+static void run_release(void) { step = release(fresh, JOBS - 1); }
+static void run_finish(void) { step = finish(busy, JOBS - 1); }
+static void run_tick(void) { ticked = tick(busy); }
+static void run_list(void) { listed = list(sheet, sizeof sheet, text, sizeof text); }
+
+static size_t depth(void (*run)(void)) {
+    memset(stack, PAINT, SIZE);
+    getcontext(&there);
+    there.uc_stack.ss_sp = stack;
+    there.uc_stack.ss_size = SIZE;
+    there.uc_link = &here;
+    makecontext(&there, run, 0);
+    assert(swapcontext(&here, &there) == 0);
+    size_t at = 0;
+    while (at < SIZE && stack[at] == PAINT) at++;
+    return SIZE - at;
+}
+
+/* The deeper one of a run with the planned sheet, and of one where the factor of its last task is 256 more (Stretch). */
+static size_t deepest(void (*run)(void)) {
+    memcpy(sheet, good, sizeof sheet);
+    size_t accepted = depth(run);
+    memcpy(sheet, good, sizeof sheet);
+    sheet[8 + 10 * JOBS - 3] += 1;
+    size_t refused = depth(run);
+    return accepted < refused ? refused : accepted;
+}
+
+static int report(const char *name, size_t used) {
+    printf("stack: homvaits_%-10s %5zu bytes\n", name, used);
+    return used <= BOUND;
+}
+
+int main(void) {
+    for (unsigned i = 0; i < JOBS; i++) {
+        unsigned period = 100 + 37 * i, budget = period / 9;
+        jobs[4 * i] = (uint8_t)(period % 256);
+        jobs[4 * i + 1] = (uint8_t)(period / 256);
+        jobs[4 * i + 2] = (uint8_t)(budget % 256);
+        jobs[4 * i + 3] = (uint8_t)(budget / 256);
+    }
+    planned = homvaits_plan(jobs, sizeof jobs, 8, 0, good, sizeof good);
+    assert(planned.refusal == 0 && planned.length == sizeof good);
+    fresh = homvaits_start_list(jobs, sizeof jobs).core;
+    busy = homvaits_release(fresh, JOBS - 1).core;
+    assert(busy.count == JOBS && busy.tasks[JOBS - 1].left > 0);
+
+    int within = 1;
+#define MEASURE(name, by_value) \
+    { \
+        size_t used = deepest(run_##name); \
+        name = (__typeof__(homvaits_##name) *)nothing; \
+        used -= depth(run_##name) - 8; \
+        within &= report(#name, used + (by_value ? sizeof(homvaits_core) : 0)); \
+    }
+    CALLS(MEASURE)
+    printf("stack: bound %d bytes\n", BOUND);
+    assert(within);
+    return 0;
+}
