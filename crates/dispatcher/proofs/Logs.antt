@@ -1,19 +1,21 @@
--- A state in form runs as the list of its tasks does: its log is theirs, and what holds of their ticks and ages holds of its own.
+-- A state in form runs as the list of its tasks does: its log is theirs, and what holds of their ticks, ages and ticks left holds of
+-- its own.
 -- Every value of the state's type has 64 places; `places` says so.
 -- Assumes nothing.
 use Prim.Native.Nat.{ℕ}
 use mathlib.Core.Path.{_≡_, refl, sym, ap, subst₂, _∙_}
+use mathlib.Core.Logic.{_↔_}
 use mathlib.Core.Bool.{Bool, true, false, cond}
-use mathlib.Core.List.{List, [], _∷_}
+use mathlib.Core.List.{List, [], _∷_, _++_}
 use native.Mathlib.Omega.{arith}
 use lib.ListN.{length, drop, length-append, length-drop}
 use lib.Seq.{length-take-le, take-at}
 use Rattle.fit.specs.Lists.{Each}
 use Rattle.timing.specs.declared.Task.{Task}
-use Rattle.timing.specs.Calls.{Call, release, finish, tick, Answer, served, idle, refused, releaseAnswer, finishAnswer, answer, next, entry, log, run}
+use Rattle.timing.specs.Calls.{Call, release, finish, tick, Answer, accepted, served, idle, refused, releaseAnswer, finishAnswer, answer, next, Entry, entry, log, run}
 use Rattle.timing.specs.Form.{Fresh}
-use Rattle.timing.specs.OnTime.{count, refusedWith, isRefused}
-use Rattle.timing.specs.Serving.{nth, Foremost, AgeCounts}
+use Rattle.timing.specs.OnTime.{count, refusedWith, isRefused, Ended}
+use Rattle.timing.specs.Serving.{nth, Foremost, isRelease, AgeCounts, LeftCounts}
 use Rattle.timing.specs.Tasks.{released, finished, used}
 use Rattle.timing.proofs.Steps.{Release, is-early, is-late, starts, release-view, Finish, is-quiet, ends, finish-view, changed-named, changed-pending, changed-answer, length-next, refused-kept}
 use Rattle.timing.proofs.Form.{form-kept}
@@ -24,6 +26,7 @@ use Rattle.dispatcher.proofs.Foreign.{form-foreign}
 use Rattle.dispatcher.proofs.Outcomes.{same-tasks}
 use Rattle.timing.proofs.First as timing-first
 use Rattle.timing.proofs.Age as timing-age
+use Rattle.timing.proofs.Left as timing-left
 
 -- A refused call hands the state back as given.
 pub refused-unaltered : (c : Call) (s : Core) (n p : ℕ) → ask c s ≡ refused n p → step c s ≡ s
@@ -104,3 +107,11 @@ tick-idle s f e = timing-first.tick-idle (tasksOf s) (sym (ask-form tick s f) �
 -- the ages after every list of calls from a fresh state in form count the ticks since the last accepted release
 pub age-counts : (s : Core) → length (s .tasks) ≡ 64 → InForm s → Each Fresh (tasksOf s) → (cs : List Call) → AgeCounts (log ask step s cs) (tasksOf (run step s cs))
 age-counts s places f h cs = subst₂ AgeCounts (sym (log-form cs s places f)) (sym (run-form cs s places f)) (timing-age.age-counts (tasksOf s) (f .form) h cs)
+
+-- the ticks left after every list of calls from a fresh state in form are the budget less the ticks that the job was given
+pub left-counts : (s : Core) → length (s .tasks) ≡ 64 → InForm s → Each Fresh (tasksOf s) → (cs : List Call) → LeftCounts (log ask step s cs) (tasksOf (run step s cs))
+left-counts s places f h cs = subst₂ LeftCounts (sym (log-form cs s places f)) (sym (run-form cs s places f)) (timing-left.left-counts (tasksOf s) (f .form) h cs)
+
+-- after the last accepted release of j its task has nothing left exactly when the job has ended
+pub pending-ended : (s : Core) → length (s .tasks) ≡ 64 → InForm s → Each Fresh (tasksOf s) → (cs : List Call) (before xs : List Entry) (j : ℕ) → log ask step s cs ≡ before ++ entry (release j) accepted ∷ xs → count (isRelease j) xs ≡ 0 → Each (λ t. t .number ≡ j → (t .left ≡ 0) ↔ Ended (t .budget) j xs) (tasksOf (run step s cs))
+pending-ended s places f h cs before xs j e y = rw (run-form cs s places f) (timing-left.pending-ended (tasksOf s) (f .form) h cs before xs j (sym (log-form cs s places f) ∙ e) y)

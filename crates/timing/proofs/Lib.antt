@@ -8,4 +8,6 @@ pub mod Level
 pub mod Machine
 pub mod OnTime
 pub mod First
+pub mod Own
 pub mod Age
+pub mod Left

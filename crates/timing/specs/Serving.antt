@@ -1,6 +1,6 @@
--- What document 01 says of ticks and ages, over whole states and logs: the tick goes to the first pending task by priority, and the age
--- of a task counts the ticks since its last accepted release.
-use Prim.Native.Nat.{ℕ, _<_, min}
+-- Ticks, ages and ticks left over whole states and logs (docs/SHEET.md, section 6): the tick goes to the first pending task by priority,
+-- the age of a task counts the ticks since its last accepted release, and its ticks left those that its job has still to get.
+use Prim.Native.Nat.{ℕ, _+_, _<_, min}
 use mathlib.Core.Path.{_≡_}
 use mathlib.Core.Logic.{_⊎_}
 use mathlib.Core.Bool.{Bool, false, _&&_}
@@ -11,7 +11,7 @@ use Rattle.fit.specs.Lists.{Each}
 use Rattle.timing.specs.declared.Task.{Task}
 use Rattle.timing.specs.Calls.{Call, release, finish, tick, accepted, Entry, entry}
 use Rattle.timing.specs.Form.{Above}
-use Rattle.timing.specs.OnTime.{count, isTick, isAccepted}
+use Rattle.timing.specs.OnTime.{count, isTick, isRun, isFinish, isAccepted}
 
 -- the task that stands at no place
 abbrev pub noTask : Task
@@ -42,3 +42,12 @@ pub record AgeCounts (l : List Entry) (s : List Task) : Type 0 where
   pub since : (before xs : List Entry) (j : ℕ) → l ≡ before ++ entry (release j) accepted ∷ xs → count (isRelease j) xs ≡ 0 → Each (λ t. t .number ≡ j → t .age ≡ min (count isTick xs) (t .period)) s
   -- with no accepted release of j: the period
   pub unreleased : (j : ℕ) → count (isRelease j) l ≡ 0 → Each (λ t. t .number ≡ j → t .age ≡ t .period) s
+
+-- the ticks left in a state s after a log l that began with a fresh state
+pub record LeftCounts (l : List Entry) (s : List Task) : Type 0 where
+  -- after the last accepted release of j, with no accepted finish of j since: with the ticks answered with j since then they make the budget
+  pub since : (before xs : List Entry) (j : ℕ) → l ≡ before ++ entry (release j) accepted ∷ xs → count (isRelease j) xs ≡ 0 → count (isFinish j) xs ≡ 0 → Each (λ t. t .number ≡ j → t .left + count (isRun j) xs ≡ t .budget) s
+  -- after an accepted finish of j, with no accepted release of j since: 0
+  pub ended : (before xs : List Entry) (j : ℕ) → l ≡ before ++ entry (finish j) accepted ∷ xs → count (isRelease j) xs ≡ 0 → Each (λ t. t .number ≡ j → t .left ≡ 0) s
+  -- with no accepted release of j: 0
+  pub unreleased : (j : ℕ) → count (isRelease j) l ≡ 0 → Each (λ t. t .number ≡ j → t .left ≡ 0) s
