@@ -18,7 +18,7 @@ use Rattle.timing.specs.Form.{Distinct, Form, Fresh}
 use Rattle.timing.specs.OnTime.{count, toTick, toFinish, servedTo, isAccepted, isTick, isRun, isFinish, Ended}
 use Rattle.timing.specs.Serving.{isRelease, LeftCounts}
 use Rattle.timing.proofs.Lists.{zero-or-pos, each-map}
-use Rattle.timing.proofs.Runs.{Logged, logged, run-log, log-split, count-cons, count-append, count-none, count-cut, run-counts, run-counted}
+use Rattle.timing.proofs.Runs.{Logged, logged, run-log, log-split, count-cons, count-append, count-none, count-cut, finish-entry, run-counts, run-counted}
 use Rattle.timing.proofs.Steps.{release-started, Finish, is-quiet, ends, finish-view, finished-cases, Changed, nowhere, here, later, changed-named, changed-pending, each-changed}
 use Rattle.timing.proofs.Form.{form-kept, form-run}
 use Rattle.timing.proofs.Own.{Own, each-own, release-other, finish-other}
@@ -101,20 +101,6 @@ left-counts s f h cs = record {
   unreleased = λ j y.
       rw (← (run-log answer next cs s)) (done-run j (log answer next s cs) s (logged answer next cs s) y (each-of s (λ t k n. k .left) h));
 }
-
--- an entry that counts as a finish of j is an accepted finish of j
-finish-entry : (j : ℕ) (x : Entry) → isFinish j x ≡ true → x ≡ entry (finish j) accepted
-unfolding isFinish toFinish isAccepted
-finish-entry j (entry (release i) a) e = absurd (false≢true e)
-finish-entry j (entry tick a) e = absurd (false≢true e)
-finish-entry j (entry (finish i) a) e = go (eqb i j) refl a e
-  where
-    go : (b : Bool) → eqb i j ≡ b → (a : Answer) → (b && isAccepted a) ≡ true → entry (finish i) a ≡ entry (finish j) accepted
-    go true x accepted y = ap (λ k. entry (finish k) accepted) (eqb-true i j x)
-    go true x (served k) y = absurd (false≢true y)
-    go true x idle y = absurd (false≢true y)
-    go true x (refused n k) y = absurd (false≢true y)
-    go false x a y = absurd (false≢true y)
 
 -- after the last accepted release of j its task has nothing left exactly when the job has ended
 pub pending-ended : (s : List Task) → Form s → Each Fresh s → (cs : List Call) (before xs : List Entry) (j : ℕ) → log answer next s cs ≡ before ++ entry (release j) accepted ∷ xs → count (isRelease j) xs ≡ 0 → Each (λ t. t .number ≡ j → (t .left ≡ 0) ↔ Ended (t .budget) j xs) (run next s cs)

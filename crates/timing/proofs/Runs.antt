@@ -2,13 +2,14 @@
 -- Assumes nothing.
 use Prim.Native.Nat.{ℕ, zero, suc, _+_, _<_}
 use mathlib.Core.Path.{_≡_, refl, sym, ap, _∙_, subst}
-use mathlib.Core.Bool.{Bool, true, false, cond}
+use mathlib.Core.Bool.{Bool, true, false, cond, _&&_, false≢true}
 use mathlib.Core.List.{List, [], _∷_, _++_}
 use native.Mathlib.Omega.{arith}
-use borrow.Author.Tests.{eq-eqb}
+use lib.Dec.{eqb}
+use borrow.Author.Tests.{eqb-true, eq-eqb}
 use Rattle.fit.specs.Lists.{Each}
-use Rattle.timing.specs.Calls.{Call, release, finish, tick, Answer, accepted, served, Entry, entry, calls, log, run}
-use Rattle.timing.specs.OnTime.{count, toTick, toFinish, servedTo, isAccepted, isRun, isFinish}
+use Rattle.timing.specs.Calls.{Call, release, finish, tick, Answer, accepted, served, idle, refused, Entry, entry, calls, log, run}
+use Rattle.timing.specs.OnTime.{count, toTick, toFinish, servedTo, isAccepted, isTick, isRun, isFinish}
 use Rattle.timing.specs.Serving.{toRelease, isRelease}
 
 -- the count over a log is that of its first entry and that of the rest
@@ -71,6 +72,27 @@ unfolding run
 run-kept step P k [] s h = h
 run-kept step P k (c ∷ cs) s h = run-kept step P k cs (step c s) (k c s h)
 
+-- an entry that counts as a tick is a tick
+pub tick-entry : (x : Entry) → isTick x ≡ true → (a : Answer) × (x ≡ entry tick a)
+unfolding isTick toTick
+tick-entry (entry (release i) a) e = absurd (false≢true e)
+tick-entry (entry (finish i) a) e = absurd (false≢true e)
+tick-entry (entry tick a) e = (a, refl)
+
+-- one that counts as a finish of j is an accepted finish of j
+pub finish-entry : (j : ℕ) (x : Entry) → isFinish j x ≡ true → x ≡ entry (finish j) accepted
+unfolding isFinish toFinish isAccepted
+finish-entry j (entry (release i) a) e = absurd (false≢true e)
+finish-entry j (entry tick a) e = absurd (false≢true e)
+finish-entry j (entry (finish i) a) e = go (eqb i j) refl a e
+  where
+    go : (b : Bool) → eqb i j ≡ b → (a : Answer) → (b && isAccepted a) ≡ true → entry (finish i) a ≡ entry (finish j) accepted
+    go true x accepted y = ap (λ k. entry (finish k) accepted) (eqb-true i j x)
+    go true x (served k) y = absurd (false≢true y)
+    go true x idle y = absurd (false≢true y)
+    go true x (refused n k) y = absurd (false≢true y)
+    go false x a y = absurd (false≢true y)
+
 -- each entry of a log has the answer that its call gets at the state before it
 unfoldable pub Logged : {S : Type 0} → (Call → S → Answer) → (Call → S → S) → S → List Entry → Type 0
 Logged ask step s [] = Unit {0}
@@ -117,3 +139,9 @@ module _ {S : Type 0} (ask : Call → S → Answer) (step : Call → S → S) wh
     where
       one : count q (entry c a ∷ l) ≡ count q (entry c (ask c s) ∷ []) + count q l
       one = count-cons q (entry c a) l ∙ ap (λ b. count q (entry c b ∷ []) + count q l) (h .0)
+
+  -- the log of two lists of calls
+  pub log-append : (cs ds : List Call) (s : S) → log ask step s (cs ++ ds) ≡ log ask step s cs ++ log ask step (run step s cs) ds
+  unfolding log run
+  log-append [] ds s = refl
+  log-append (c ∷ cs) ds s = ap (λ l. entry c (ask c s) ∷ l) (log-append cs ds (step c s))
