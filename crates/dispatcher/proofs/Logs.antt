@@ -71,6 +71,15 @@ unfolding run
 run-form [] s places f = refl
 run-form (c ∷ cs) s places f = run-form cs (step c s) (step-places c s places f) (step-form c s places f) ∙ ap (λ l. run next l cs) (step-tasks c s places f)
 
+-- it is in form, and answers as they do
+pub run-in-form : (cs : List Call) (s : Core) → length (s .tasks) ≡ 64 → InForm s → InForm (run step s cs)
+unfolding run
+run-in-form [] s places f = f
+run-in-form (c ∷ cs) s places f = run-in-form cs (step c s) (step-places c s places f) (step-form c s places f)
+
+pub ask-run : (c : Call) (cs : List Call) (s : Core) → length (s .tasks) ≡ 64 → InForm s → ask c (run step s cs) ≡ answer c (run next (tasksOf s) cs)
+ask-run c cs s places f = ask-form c (run step s cs) (run-in-form cs s places f) ∙ ap (answer c) (run-form cs s places f)
+
 -- tasks answer no 21
 not-foreign : (c : Call) (s : List Task) → refusedWith 21 (answer c s) ≡ false
 unfolding answer refusedWith

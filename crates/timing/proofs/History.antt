@@ -1,7 +1,7 @@
 -- Where no call is ever Late, a release is answered by the ticks since the last accepted one.
 -- Assumes nothing.
 use Prim.Native.Nat.{ℕ, _≤_, _<_}
-use mathlib.Core.Path.{_≡_, refl, sym, ap, _∙_}
+use mathlib.Core.Path.{_≡_, refl, ap, _∙_}
 use mathlib.Core.List.{List, [], _∷_, _++_}
 use native.Mathlib.Omega.{arith}
 use lib.ListN.{length}
@@ -9,10 +9,10 @@ use Rattle.fit.specs.Lists.{Each}
 use Rattle.fit.proofs.Lists.{each-at}
 use Rattle.timing.specs.declared.Task.{Task}
 use Rattle.timing.specs.Tasks.{withJob}
-use Rattle.timing.specs.Calls.{Call, release, Answer, accepted, refused, releaseAnswer, answer, next, Entry, entry, log, run}
+use Rattle.timing.specs.Calls.{Call, release, Answer, accepted, refused, releaseAnswer, answer, next, entry, log, run}
 use Rattle.timing.specs.Form.{Form, Fresh}
-use Rattle.timing.specs.OnTime.{count, refusedWith, isTick, isRefused}
-use Rattle.timing.specs.Serving.{nth, noTask, isRelease, AgeCounts, ByHistory}
+use Rattle.timing.specs.OnTime.{count, refusedWith, isRefused}
+use Rattle.timing.specs.Serving.{nth, noTask, AgeCounts, ByHistory}
 use Rattle.timing.proofs.Lists.{nth-each}
 use Rattle.timing.proofs.Runs.{run-kept, log-append, count-append}
 use Rattle.timing.proofs.Steps.{Release, is-early, is-late, starts, release-view, bare, bare-nth, length-next}

@@ -3,19 +3,19 @@
 use Prim.Native.Nat.{ℕ, _+_, _≤_, _<_}
 use mathlib.Core.Path.{_≡_, refl, sym, ap, _∙_}
 use mathlib.Core.Logic.{_⊎_, inl, inr, ⊎-elim, _↔_}
-use mathlib.Core.Bool.{Bool, true, false, _&&_, false≢true}
+use mathlib.Core.Bool.{false}
 use mathlib.Core.List.{List, [], _∷_, _++_, append-assoc}
 use native.Mathlib.Nat.{add-zero}
 use native.Mathlib.Omega.{arith}
 use lib.Dec.{eqb}
-use borrow.Author.Tests.{ltb-true, eqb-true, ne-eqb}
+use borrow.Author.Tests.{ltb-true, ne-eqb}
 use Rattle.fit.specs.Lists.{Each, EachPair}
 use Rattle.fit.proofs.Lists.{each-of, each-both}
 use Rattle.timing.specs.declared.Task.{Task}
 use Rattle.timing.specs.Tasks.{pending, withJob, released, finished, used, older}
-use Rattle.timing.specs.Calls.{Call, release, finish, tick, Answer, accepted, served, idle, refused, releaseAnswer, finishAnswer, tickAnswer, modify, answer, next, Entry, entry, log, run, calls}
+use Rattle.timing.specs.Calls.{Call, release, finish, tick, Answer, accepted, served, idle, releaseAnswer, finishAnswer, tickAnswer, modify, answer, next, Entry, entry, log, run, calls}
 use Rattle.timing.specs.Form.{Distinct, Form, Fresh}
-use Rattle.timing.specs.OnTime.{count, toTick, toFinish, servedTo, isAccepted, isTick, isRun, isFinish, Ended}
+use Rattle.timing.specs.OnTime.{count, toTick, servedTo, isTick, isRun, isFinish, Ended}
 use Rattle.timing.specs.Serving.{isRelease, LeftCounts}
 use Rattle.timing.proofs.Lists.{zero-or-pos, each-map}
 use Rattle.timing.proofs.Runs.{Logged, logged, run-log, log-split, count-cons, count-append, count-none, count-cut, finish-entry, run-counts, run-counted}
