@@ -4,7 +4,7 @@
 -- Assumes nothing.
 use Prim.Native.Nat.{ℕ}
 use mathlib.Core.Path.{_≡_, refl, sym, ap, subst₂, _∙_}
-use mathlib.Core.Logic.{_↔_}
+use mathlib.Core.Logic.{_⊎_, inl, inr, ⊎-elim, _↔_}
 use mathlib.Core.Bool.{Bool, true, false, cond}
 use mathlib.Core.List.{List, [], _∷_, _++_}
 use native.Mathlib.Omega.{arith}
@@ -20,9 +20,10 @@ use Rattle.timing.specs.Tasks.{released, finished, used}
 use Rattle.timing.proofs.Steps.{Release, is-early, is-late, starts, release-view, Finish, is-quiet, ends, finish-view, changed-named, changed-pending, changed-answer, length-next, refused-kept}
 use Rattle.timing.proofs.Form.{form-kept}
 use Rattle.dispatcher.specs.declared.Core.{Core}
+use Rattle.dispatcher.specs.declared.Step.{Step}
 use Rattle.dispatcher.specs.State.{tasksOf, withTasks, InForm, foreign}
-use Rattle.dispatcher.specs.Operations.{ask, step}
-use Rattle.dispatcher.proofs.Foreign.{form-foreign}
+use Rattle.dispatcher.specs.Operations.{ask, step, Operation, Unaltered, ServesFirst}
+use Rattle.dispatcher.proofs.Foreign.{foreign-form, form-foreign}
 use Rattle.dispatcher.proofs.Outcomes.{same-tasks}
 use Rattle.timing.proofs.First as timing-first
 use Rattle.timing.proofs.Age as timing-age
@@ -112,6 +113,28 @@ tick-first s j f e = timing-first.tick-first (tasksOf s) j (f .form) (sym (ask-f
 -- an idle tick finds nothing pending
 pub tick-idle : (s : Core) → InForm s → ask tick s ≡ idle → Each (λ t. t .left ≡ 0) (tasksOf s)
 tick-idle s f e = timing-first.tick-idle (tasksOf s) (sym (ask-form tick s f) ∙ e)
+
+-- a state is in form, or every call on it is refused with 21
+form-or-foreign : (c : Call) (s : Core) → InForm s ⊎ (ask c s ≡ refused 21 0)
+unfolding ask
+form-or-foreign c s = by (foreign s) refl
+  where
+    by : (b : Bool) → foreign s ≡ b → InForm s ⊎ (cond b (refused 21 0) (answer c (tasksOf s)) ≡ refused 21 0)
+    by true e = inr refl
+    by false e = inl (foreign-form s e)
+
+-- what every operation promises beside its outcome, and what a tick promises
+pub unaltered : (c : Call) (s : Core) (r : Step) → Operation c s r → Operation c s r × Unaltered s r
+unaltered c s r o = (o, record { kept = λ n p e. o .core ∙ refused-unaltered c s n p (sym (o .answer) ∙ e) })
+
+pub serves-first : (s : Core) (r : Step) → Operation tick s r → Operation tick s r × (Unaltered s r × ServesFirst s r)
+serves-first s r o = (o, (unaltered tick s r o .1, ⊎-elim inside outside (form-or-foreign tick s)))
+  where
+    inside : InForm s → ServesFirst s r
+    inside f = record { first = λ j e. tick-first s j f (sym (o .answer) ∙ e); idle = λ e. tick-idle s f (sym (o .answer) ∙ e) }
+
+    outside : ask tick s ≡ refused 21 0 → ServesFirst s r
+    outside x = record { first = λ j e. absurd (let z : _≡_ {A = ℕ} 0 1 = cc (o .answer) in omega arith); idle = λ e. absurd (let z : _≡_ {A = ℕ} 0 1 = cc (o .answer) in omega arith) }
 
 -- the ages after every list of calls from a fresh state in form count the ticks since the last accepted release
 pub age-counts : (s : Core) → length (s .tasks) ≡ 64 → InForm s → Each Fresh (tasksOf s) → (cs : List Call) → AgeCounts (log ask step s cs) (tasksOf (run step s cs))
