@@ -7,3 +7,4 @@ pub mod Outcomes
 pub mod Logs
 pub mod Schedule
 pub mod Starts
+pub mod Refused

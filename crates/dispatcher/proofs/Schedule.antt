@@ -14,13 +14,16 @@ use Rattle.fit.specs.Fits.{Multiple, load, within}
 use Rattle.fit.proofs.Lists.{each-both, each-append, each-halves, each-at, pairs-before, each-between, each-all, each-of}
 use Rattle.checker.specs.Accepted.{Schedulable}
 use Rattle.timing.specs.declared.Task.{Task}
-use Rattle.timing.specs.Calls.{Call, answer, next, log}
+use Rattle.timing.specs.Calls.{Call, release, answer, next, log, run}
 use Rattle.timing.specs.Form.{Sound, Distinct, Above, Form, Fresh}
 use Rattle.timing.specs.OnTime.{OnTime}
-use Rattle.timing.specs.Serving.{nth}
+use Rattle.timing.specs.Serving.{nth, ByHistory}
 use Rattle.timing.proofs.Rate.{sumOf, rate, rate-le}
 use Rattle.timing.proofs.Demand.{Demand, room-of-load}
 use Rattle.timing.proofs.OnTime.{on-time}
+use Rattle.timing.proofs.Later.{on-time-later}
+use Rattle.timing.proofs.Own.{released-listed}
+use Rattle.timing.proofs.History.{by-history}
 use Rattle.dispatcher.specs.Starts.{freshTask, freshTasks}
 use Rattle.fit.specs.Priority as priority
 
@@ -31,11 +34,16 @@ pairs-of [] f h = tt
 pairs-of (i ∷ l) f h = (each-of l (f i) (h .0), pairs-of l f (h .1))
 
 module _ (p e : ℕ → ℕ) where
-  -- a property of each fresh task, and of each pair, is one of their numbers
+  -- a property of each fresh task is one of each number, both ways, and so for pairs
   each-fresh : (P : Task → Type 0) (l : List ℕ) → Each (λ i. P (freshTask (p i) (e i) i)) l → Each P (freshTasks p e l)
   unfolding freshTasks Each
   each-fresh P [] h = tt
   each-fresh P (i ∷ l) h = (h .0, each-fresh P l (h .1))
+
+  fresh-each : (P : Task → Type 0) (l : List ℕ) → Each P (freshTasks p e l) → Each (λ i. P (freshTask (p i) (e i) i)) l
+  unfolding freshTasks Each
+  fresh-each P [] h = tt
+  fresh-each P (i ∷ l) h = (h .0, fresh-each P l (h .1))
 
   pairs-fresh : (R : Task → Task → Type 0) (l : List ℕ) → EachPair (λ i j. R (freshTask (p i) (e i) i) (freshTask (p j) (e j) j)) l → EachPair R (freshTasks p e l)
   unfolding freshTasks EachPair
@@ -143,3 +151,11 @@ module _ (p e M : ℕ → ℕ) (Q D : ℕ) (l : List ℕ) (h : Schedulable p e M
   -- so every log of the fresh tasks obeys the on-time rule
   pub schedule-on-time : (cs : List Call) → OnTime bound e (log answer next (freshTasks p e l) cs)
   schedule-on-time cs = on-time (λ k. 0) bound e (freshTasks p e l) schedule-form (all-fresh p e l) schedule-demand (each-fresh p e _ l (each-all _ l (λ i. refl))) cs
+
+  -- with p for w too
+  pub schedule-by-period : (cs : List Call) → OnTime p e (log answer next (freshTasks p e l) cs)
+  schedule-by-period cs = on-time-later bound p e (log answer next (freshTasks p e l) cs) (schedule-on-time cs) (λ before rest j s. released-listed (λ i. (1 ≤ bound i) × (bound i ≤ p i)) (freshTasks p e l) (each-fresh p e _ l (each-both l (λ i x y. (omega arith, x .1)) (h .bounds) (h .budget))) cs before rest j s)
+
+  -- and each release is answered by the ticks since the last accepted one
+  pub schedule-by-history : (cs : List Call) → Each (λ j. ByHistory (p j) j (log answer next (freshTasks p e l) cs) (answer (release j) (run next (freshTasks p e l) cs))) l
+  schedule-by-history cs = fresh-each p e _ l (by-history (freshTasks p e l) schedule-form (all-fresh p e l) (λ ds. schedule-on-time ds .never-late) cs)

@@ -2,7 +2,7 @@
 -- they use what acceptance promises.
 -- Assumes nothing.
 use Prim.Native.Nat.{ℕ, _-_, _/_, _≤_, _<_}
-use mathlib.Core.Path.{_≡_, sym, ap, subst, _∙_, refl}
+use mathlib.Core.Path.{_≡_, sym, ap, subst, subst₂, _∙_, refl}
 use mathlib.Core.Option.{none, Option, some}
 use mathlib.Core.List.{List, []}
 use native.Mathlib.Omega.{arith}
@@ -18,7 +18,7 @@ use Rattle.sheet.specs.declared.Refusal.the-variants.{Core as NoCore}
 use Rattle.sheet.specs.declared.Finding.{Finding}
 use Rattle.sheet.specs.declared.Finding.the-variants.{Clear, Broken}
 use Rattle.sheet.specs.Table.{scan, findingOf, Refused}
-use Rattle.sheet.specs.Records.{periodAt, budgetAt, coreAt}
+use Rattle.sheet.specs.Records.{periodAt, budgetAt, coreAt, figures}
 use Rattle.fit.specs.declared.By.the-variants.{Period}
 use Rattle.fit.specs.Priority.{order}
 use Rattle.fit.specs.Ring.{orderBy}
@@ -26,6 +26,7 @@ use Rattle.fit.proofs.Priority.{order-members, order-count, order-rising}
 use Rattle.fit.proofs.Lists.{each-of}
 use Rattle.checker.specs.declared.Verdict.{Verdict}
 use Rattle.checker.specs.declared.Verdict.the-variants.{Accepted as Passed, Refused as Rejected}
+use Rattle.fit.specs.Lists.{Each}
 use Rattle.fit.specs.Cores.{orderOn, withinOn}
 use Rattle.checker.specs.Verdict.{verdict, outcomeOf}
 use Rattle.checker.specs.Accepted.{CoreOf}
@@ -33,18 +34,20 @@ use Rattle.checker.proofs.Acceptance.{core-of}
 use Rattle.jobs.specs.Jobs.{jobCount, jobPeriod, jobBudget, listRows}
 use Rattle.jobs.proofs.Laws.{listed}
 use Rattle.timing.specs.declared.Task.{Task}
-use Rattle.timing.specs.Calls.{Call, accepted, log, answer, next, refused, Answer}
+use Rattle.timing.specs.Calls.{Call, release, accepted, log, run, answer, next, refused, Answer}
 use Rattle.timing.specs.Form.{Form}
 use Rattle.timing.specs.OnTime.{OnTime}
+use Rattle.timing.specs.Serving.{ByHistory}
 use Rattle.dispatcher.specs.declared.Core.{Core}
 use Rattle.dispatcher.specs.declared.Step.{Step}
 use Rattle.dispatcher.specs.declared.Answer.the-variants.{Accepted}
 use Rattle.dispatcher.specs.State.{tasksOf, InForm}
+use Rattle.dispatcher.specs.Operations.{ask, step}
 use Rattle.dispatcher.specs.Starts.{freshTasks, stateOf, sheetAnswer, sheetTasks, sheetState, SheetStart, listAnswer, listState, ListStart, FreshCore}
 use Rattle.dispatcher.specs.OnTime.{Kept, Timely}
 use Rattle.dispatcher.specs.Steps.{refusal}
-use Rattle.dispatcher.proofs.Logs.{log-form, never-foreign}
-use Rattle.dispatcher.proofs.Schedule.{schedule-form, schedule-on-time, all-fresh, fresh-form}
+use Rattle.dispatcher.proofs.Logs.{log-form, ask-run, never-foreign}
+use Rattle.dispatcher.proofs.Schedule.{schedule-form, schedule-on-time, schedule-by-period, schedule-by-history, all-fresh, fresh-form}
 use Rattle.checker.specs.Verdict as verdict
 
 -- the state that has these tasks: its tasks, its places and its form
@@ -73,17 +76,31 @@ core-fresh : (s : List ℕ) (n c k : ℕ) → CoreOf s n c k → FreshCore (stat
 unfolding sheetTasks
 core-fresh s n c k h = fresh-core _ _ _ (schedule-form _ _ _ _ _ _ (h .schedulable))
 
+-- the log of a core that the checker accepts is that of its fresh tasks
+core-log : (s : List ℕ) (n c k : ℕ) → CoreOf s n c k → (cs : List Call) → log ask step (stateOf (sheetTasks s k)) cs ≡ log answer next (sheetTasks s k) cs
+core-log s n c k h cs =
+    let f = core-fresh s n c k h in
+    log-form cs (stateOf (sheetTasks s k)) (f .places) (f .form) ∙ ap (λ t. log answer next t cs) (state-tasks (sheetTasks s k))
+
 -- the on-time promise of a core that the checker accepts, from its fresh state
 pub core-kept : (s : List ℕ) (n c k : ℕ) → CoreOf s n c k → (cs : List Call) → Kept s k (stateOf (sheetTasks s k)) cs
 unfolding sheetTasks withinOn
 core-kept s n c k h cs =
-    let l : List Task = sheetTasks s k in
     let f = core-fresh s n c k h in
     record {
-      rule = subst (OnTime _ _) (sym (log-form cs (stateOf l) (f .places) (f .form) ∙ ap (λ t. log answer next t cs) (state-tasks l))) (schedule-on-time _ _ _ _ _ _ (h .schedulable) cs);
-      never-foreign = never-foreign cs (stateOf l) (f .places) (f .form);
+      rule = subst (OnTime _ _) (sym (core-log s n c k h cs)) (schedule-on-time _ _ _ _ _ _ (h .schedulable) cs);
+      by-period = subst (OnTime _ _) (sym (core-log s n c k h cs)) (schedule-by-period _ _ _ _ _ _ (h .schedulable) cs);
+      never-foreign = never-foreign cs (stateOf (sheetTasks s k)) (f .places) (f .form);
       bounds = h .schedulable .bounds;
     }
+
+-- and how its releases are answered
+core-by-history : (s : List ℕ) (n c k : ℕ) → CoreOf s n c k → (cs : List Call) → Each (λ j. ByHistory (figures s .period j) j (log ask step (stateOf (sheetTasks s k)) cs) (ask (release j) (run step (stateOf (sheetTasks s k)) cs))) (orderOn (figures s) k)
+unfolding sheetTasks
+core-by-history s n c k h cs =
+    let z = stateOf (sheetTasks s k) in
+    let f = core-fresh s n c k h in
+    each-of _ (λ j x. subst₂ (ByHistory (figures s .period j) j) (sym (core-log s n c k h cs)) (sym (ask-run (release j) cs z (f .places) (f .form) ∙ ap (λ t. answer (release j) (run next t cs)) (state-tasks (sheetTasks s k)))) x) (schedule-by-history _ _ _ _ _ _ (h .schedulable) cs)
 
 -- a refused start promises nothing on time
 pub refused-timely : (s : List ℕ) (k : ℕ) (z : Core) (w : Refusal) (p : ℕ) (r : Step) → r ≡ refusal z w p → Timely s k r
@@ -155,18 +172,36 @@ module _ (l : List ℕ) (f : Finding) (e : findingOf f ≡ scan (listRows 0 l)) 
     unfolding listAnswer listState jobCount
     list-starts y q = record { answer = rw (← clear); core = rw (← clear) q }
 
--- the state of an accepted start is fresh
-pub sheet-fresh : (s : List ℕ) (k : ℕ) → sheetAnswer (verdict s) k ≡ accepted → FreshCore (sheetState (verdict s) s k)
+-- an accepted start from a sheet: the checker accepts the core, and the state has its tasks
+record Started (s : List ℕ) (k : ℕ) : Type 0 where
+  pub tasks : ℕ
+  pub cores : ℕ
+  pub core : CoreOf s tasks cores k
+  pub state : sheetState (verdict s) s k ≡ stateOf (sheetTasks s k)
+
+started : (s : List ℕ) (k : ℕ) → sheetAnswer (verdict s) k ≡ accepted → Started s k
 unfolding sheetAnswer sheetState
-sheet-fresh s k a = go (verdict s) refl a
+started s k a = go (verdict s) refl a
   where
-    on : (n c : ℕ) (b : Bool) → ltb k c ≡ b → verdict s ≡ verdict.accepted n c → _≡_ {A = Answer} (cond b accepted (refused 9 0)) accepted → FreshCore (stateOf (cond b (sheetTasks s k) []))
-    on n c true h e x = core-fresh s n c k (core-of s n c k e (ltb-true k c h))
+    on : (n c : ℕ) (b : Bool) → ltb k c ≡ b → verdict s ≡ verdict.accepted n c → _≡_ {A = Answer} (cond b accepted (refused 9 0)) accepted → Started s k
+    on n c true h e x = record { tasks = n; cores = c; core = core-of s n c k e (ltb-true k c h); state = rw (e, h) }
     on n c false h e x = absurd (let z : _≡_ {A = ℕ} 0 1 = cc in omega arith)
 
-    go : (o : verdict.Outcome) → verdict s ≡ o → sheetAnswer o k ≡ accepted → FreshCore (sheetState o s k)
+    go : (o : verdict.Outcome) → verdict s ≡ o → sheetAnswer o k ≡ accepted → Started s k
     go (verdict.accepted n c) e x = on n c (ltb k c) refl e x
     go (verdict.refused w p) e x = absurd (let z : _≡_ {A = ℕ} 0 1 = cc in omega arith)
+
+-- the state of an accepted start is fresh
+pub sheet-fresh : (s : List ℕ) (k : ℕ) → sheetAnswer (verdict s) k ≡ accepted → FreshCore (sheetState (verdict s) s k)
+sheet-fresh s k a =
+    let h = started s k a in
+    rw (h .state) (core-fresh s (h .tasks) (h .cores) k (h .core))
+
+-- after every list of calls, each release of a task of the core is answered by the ticks since the last accepted one
+pub release-by-history : (s : List ℕ) (k : ℕ) → sheetAnswer (verdict s) k ≡ accepted → (cs : List Call) → Each (λ j. ByHistory (figures s .period j) j (log ask step (sheetState (verdict s) s k) cs) (ask (release j) (run step (sheetState (verdict s) s k) cs))) (orderOn (figures s) k)
+release-by-history s k a cs =
+    let h = started s k a in
+    rw (h .state) (core-by-history s (h .tasks) (h .cores) k (h .core) cs)
 
 pub list-fresh : (l : List ℕ) → listAnswer (scan (listRows 0 l)) ≡ accepted → FreshCore (listState (scan (listRows 0 l)) l)
 unfolding listAnswer listState orderBy

@@ -1,4 +1,4 @@
--- The on-time rule for a core that is started from a sheet (docs/SHEET.md, section 7).
+-- The on-time rule (docs/SHEET.md, section 7) for a core that is started from a sheet.
 use Prim.Native.Nat.{ℕ, _≤_}
 use mathlib.Core.Path.{_≡_}
 use mathlib.Core.List.{List}
@@ -11,10 +11,11 @@ use Rattle.dispatcher.specs.declared.Core.{Core}
 use Rattle.dispatcher.specs.declared.Step.{Step}
 use Rattle.dispatcher.specs.Operations.{answerOf, ask, step}
 
--- What holds of the log of calls cs from state `start` on core k of sheet s: the on-time rule with w and e of the sheet, and no call is
--- refused as Foreign (21). Beside it, e ≤ w ≤ p for every task of the core.
+-- What holds of the log of calls cs from state `start` on core k of sheet s: the on-time rule with w and e of the sheet, so also with p and e,
+-- and no call is refused as Foreign (21). Beside it, e ≤ w ≤ p for every task of the core.
 pub record Kept (s : List ℕ) (k : ℕ) (start : Core) (cs : List Call) : Type 0 where
   pub rule : OnTime (withinOn (figures s) k) (figures s .budget) (log ask step start cs)
+  pub by-period : OnTime (figures s .period) (figures s .budget) (log ask step start cs)
   pub never-foreign : count (isRefused 21) (log ask step start cs) ≡ 0
   pub bounds : Each (λ i. (figures s .budget i ≤ withinOn (figures s) k i) × (withinOn (figures s) k i ≤ figures s .period i)) (orderOn (figures s) k)
 

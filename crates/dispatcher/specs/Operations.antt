@@ -1,8 +1,11 @@
--- Release, finish and tick of a state; each looks for 21 Foreign first (docs/SHEET.md, section 6).
+-- Release, finish and tick of a state (docs/SHEET.md, section 6); each looks first whether the state is foreign.
+use Prim.Native.Nat.{ℕ}
 use mathlib.Core.Path.{_≡_}
 use mathlib.Core.Bool.{cond}
+use Rattle.fit.specs.Lists.{Each}
 use Rattle.sheet.specs.Refusals.{numberOf}
 use Rattle.timing.specs.Calls.{Call, Answer, accepted, served, idle, refused, answer, next}
+use Rattle.timing.specs.Serving.{nth, Foremost}
 use Rattle.dispatcher.specs.declared.Core.{Core}
 use Rattle.dispatcher.specs.declared.Step.{Step}
 use Rattle.dispatcher.specs.declared.Answer.{Answer as CodeAnswer}
@@ -28,3 +31,12 @@ step c s = cond (foreign s) s (withTasks s (next c (tasksOf s)))
 pub record Operation (c : Call) (s : Core) (r : Step) : Type 0 where
   pub answer : answerOf (r .answer) ≡ ask c s
   pub core : r .core ≡ step c s
+
+-- a refused call hands the state back as given
+pub record Unaltered (s : Core) (r : Step) : Type 0 where
+  pub kept : (n p : ℕ) → answerOf (r .answer) ≡ refused n p → r .core ≡ s
+
+-- a tick goes to the first pending task by priority, and is idle only where nothing is pending
+pub record ServesFirst (s : Core) (r : Step) : Type 0 where
+  pub first : (j : ℕ) → answerOf (r .answer) ≡ served j → (i : ℕ) × (nth (tasksOf s) i .number ≡ j) × Foremost (tasksOf s) i
+  pub idle : answerOf (r .answer) ≡ idle → Each (λ t. t .left ≡ 0) (tasksOf s)

@@ -14,12 +14,12 @@ use Rattle.fit.specs.Lists.{Each}
 use Rattle.fit.specs.Cores.{orderOn}
 use Rattle.jobs.specs.Jobs.{jobCount, jobPeriod, jobBudget, listRows}
 use Rattle.timing.specs.declared.Task.{Task}
-use Rattle.timing.specs.Calls.{Answer, accepted, refused}
+use Rattle.timing.specs.Calls.{Call, release, finish, tick, Answer, accepted, idle, refused, entry, log, run}
 use Rattle.timing.specs.Serving.{noTask}
 use Rattle.timing.specs.Form.{Fresh}
 use Rattle.dispatcher.specs.declared.Core.{Core}
 use Rattle.dispatcher.specs.declared.Step.{Step}
-use Rattle.dispatcher.specs.Operations.{answerOf}
+use Rattle.dispatcher.specs.Operations.{answerOf, ask, step}
 use Rattle.dispatcher.specs.State.{tasksOf, InForm}
 use Rattle.checker.specs.Verdict as verdict
 
@@ -75,3 +75,15 @@ pub record FreshCore (s : Core) : Type 0 where
   pub places : length (s .tasks) ≡ 64
   pub form : InForm s
   pub fresh : Each Fresh (tasksOf s)
+
+-- what a call on a state without tasks answers: 17 to a release or a finish, and every tick is idle
+unfoldable pub withoutTasks : Call → Answer
+withoutTasks (release j) = refused 17 0
+withoutTasks (finish j) = refused 17 0
+withoutTasks tick = idle
+
+-- what the state of a refused start of either kind is: in form, answering every list of calls as above, and changed by none
+pub record Taskless (s : Core) : Type 0 where
+  pub form : InForm s
+  pub answers : (cs : List Call) → log ask step s cs ≡ map (λ c. entry c (withoutTasks c)) cs
+  pub kept : (cs : List Call) → run step s cs ≡ s

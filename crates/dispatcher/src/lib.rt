@@ -13,7 +13,7 @@ ghost use Rattle.fit.specs.Lists.{placeOf};
 ghost use Rattle.timing.specs.Tasks.{pending, named, withJob, older};
 ghost use Rattle.timing.specs.Calls.{release, finish, tick};
 ghost use Rattle.dispatcher.specs.State.{tasksOf, withTasks, sound, foreign};
-ghost use Rattle.dispatcher.specs.Operations.{Operation};
+ghost use Rattle.dispatcher.specs.Operations.{Operation, Unaltered, ServesFirst};
 ghost use Rattle.dispatcher.specs.Starts.{freshTask, freshTasks, stateOf, SheetStart, ListStart};
 ghost use Rattle.dispatcher.specs.OnTime.{Timely};
 ghost use Rattle.dispatcher.specs.Steps.{rank, spot, changed, refusal, acceptance};
@@ -333,6 +333,7 @@ impl Core {
     // A job of the task is released: 21, 17, 18, 19, else age 0 and ticks left e.
     pub fn release(self, number: u64) -> Step
         ensures { λ r. ⌜ Operation (release number) self r ⌝ }
+        ensures refused_unaltered { λ r. ⌜ Unaltered self r ⌝ }
     {
         let spot = spot_of(self, number);
         match spot {
@@ -353,6 +354,7 @@ impl Core {
     // The task's job is ended early: 21, 17, 20, else ticks left 0.
     pub fn finish(self, number: u64) -> Step
         ensures { λ r. ⌜ Operation (finish number) self r ⌝ }
+        ensures refused_unaltered { λ r. ⌜ Unaltered self r ⌝ }
     {
         let spot = spot_of(self, number);
         match spot {
@@ -370,6 +372,8 @@ impl Core {
     // One tick passes: 21, else the first pending task has one tick less left, and every age rises by one, up to its period.
     pub fn tick(self) -> Step
         ensures { λ r. ⌜ Operation tick self r ⌝ }
+        ensures refused_unaltered { λ r. ⌜ Unaltered self r ⌝ }
+        ensures serves_first { λ r. ⌜ ServesFirst self r ⌝ }
     {
         if is_foreign(self) {
             return refuse(self, Refusal::Foreign, 0);

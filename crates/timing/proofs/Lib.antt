@@ -7,5 +7,9 @@ pub mod Demand
 pub mod Level
 pub mod Machine
 pub mod OnTime
+pub mod Later
 pub mod First
+pub mod Own
 pub mod Age
+pub mod Left
+pub mod History

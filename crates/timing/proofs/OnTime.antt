@@ -7,16 +7,17 @@ use mathlib.Core.Bool.{false}
 use mathlib.Core.List.{List, [], _∷_, map}
 use native.Mathlib.Omega.{arith}
 use lib.ListN.{length, take, List·getD-map}
-use borrow.Author.Tests.{eqb-true, eq-eqb}
+use borrow.Author.Tests.{eqb-true}
 use Rattle.fit.specs.Lists.{Each}
 use Rattle.fit.proofs.Lists.{each-of, each-take, each-at}
 use Rattle.timing.specs.declared.Task.{Task}
 use Rattle.timing.specs.Tasks.{pending, named, withJob, released, finished, used, older}
-use Rattle.timing.specs.Calls.{Call, release, finish, tick, Answer, accepted, served, releaseAnswer, finishAnswer, modify, answer, next, Entry, entry, log, ofFirst, tickAnswer, idle}
+use Rattle.timing.specs.Calls.{Call, release, finish, tick, Answer, accepted, releaseAnswer, finishAnswer, modify, answer, next, Entry, entry, log, ofFirst, tickAnswer, idle}
 use Rattle.timing.specs.Form.{Form, Fresh}
-use Rattle.timing.specs.OnTime.{count, toTick, toFinish, servedTo, isAccepted, refusedWith, isTick, isRun, isFinish, isRefused, OnTime}
+use Rattle.timing.specs.OnTime.{count, toTick, refusedWith, isTick, isFinish, isRefused, OnTime}
 use Rattle.timing.specs.Serving.{noTask, nth}
 use Rattle.timing.proofs.Lists.{pending-place}
+use Rattle.timing.proofs.Runs.{finish-counts, run-counts}
 use Rattle.timing.proofs.Steps.{Release, is-early, is-late, starts, release-view, release-started, Finish, is-quiet, ends, finish-view, released-cases, changed-named, changed-pending, changed-nth, changed-found, changed-answer, bare, length-next, take-next}
 use Rattle.timing.proofs.Form.{each-of-map, figures-kept, form-kept}
 use Rattle.timing.proofs.Demand.{Demand, number-next, demand-kept}
@@ -43,10 +44,6 @@ release-goes : (j : ℕ) (s : List Task) (i : ℕ) → 0 < nth s i .left → Goe
 unfolding next count isTick toTick
 release-goes j s i p = goes-same _ refl (⊎-elim (λ x. x) (λ h. h .1 ∙ released-cases (λ u. u ≡ nth s i) (nth s i) refl (λ x z. absurd (omega arith))) (changed-nth i (changed-named j released releaseAnswer s)))
 
-finish-counts : (j n : ℕ) (a : Answer) → n ≡ j → a ≡ accepted → 1 ≤ count (isFinish n) (entry (finish j) a ∷ [])
-unfolding count isFinish toFinish isAccepted
-finish-counts j n a d e = rw (e, eq-eqb j n (sym d)) (omega arith)
-
 finish-accepted : (t : Task) → 0 < t .left → finishAnswer t ≡ accepted
 finish-accepted t p = go (finish-view t)
   where
@@ -56,17 +53,13 @@ finish-accepted t p = go (finish-view t)
 
 finish-goes : (j : ℕ) (s : List Task) (i : ℕ) → 0 < nth s i .left → (1 ≤ count (isFinish (nth s i .number)) (entry (finish j) (answer (finish j) s) ∷ [])) ⊎ Goes (entry (finish j) (answer (finish j) s)) (nth s i) (nth (next (finish j) s) i)
 unfolding next answer count isTick toTick named
-finish-goes j s i p = ⊎-elim (λ x. inr (goes-same _ refl x)) (λ h. inl (finish-counts j _ _ (eqb-true _ _ (h .0)) (h .2 ∙ finish-accepted _ p))) (changed-nth i (changed-named j finished finishAnswer s))
-
-run-counts : (j : ℕ) (a : Answer) → a ≡ served j → count (isRun j) (entry tick a ∷ []) ≡ 1
-unfolding count isRun toTick servedTo
-run-counts j a e = rw (e, eq-eqb j j refl)
+finish-goes j s i p = ⊎-elim (λ x. inr (goes-same _ refl x)) (λ h. inl (omega (arith, finish-counts (nth s i .number) j (answer (finish j) s) (sym (eqb-true _ _ (h .0))) (h .2 ∙ finish-accepted _ p)))) (changed-nth i (changed-named j finished finishAnswer s))
 
 tick-goes : (s : List Task) (i : ℕ) → 0 < nth s i .left → nth s i .age < nth s i .period → Goes (entry tick (answer tick s)) (nth s i) (nth (next tick s) i)
 unfolding next answer older used withJob count isTick toTick
 tick-goes s i p y =
     let e : nth (map older (modify pending used s)) i ≡ older (nth (modify pending used s) i) = List·getD-map older (modify pending used s) i noTask in
-    rw e (⊎-elim (λ x. rw x (record { number = refl; left = omega arith; age = omega arith })) (λ h. rw (h .1) (record { number = refl; left = omega (arith, run-counts (nth s i .number) (ofFirst pending tickAnswer idle s) (h .2)); age = omega arith })) (changed-nth i (changed-pending used s)))
+    rw e (⊎-elim (λ x. rw x (record { number = refl; left = omega arith; age = omega arith })) (λ h. rw (h .1) (record { number = refl; left = omega (arith, run-counts (nth s i .number) (nth s i .number) (ofFirst pending tickAnswer idle s) refl (h .2)); age = omega arith })) (changed-nth i (changed-pending used s)))
 
 -- an answer other than Late (19)
 abbrev NotLate : Answer → Type 0

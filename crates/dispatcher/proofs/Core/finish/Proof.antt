@@ -1,5 +1,6 @@
 use borrow.Author.Needs.{needs}
 use Rattle.dispatcher.proofs.Places.{array-length}
+use Rattle.dispatcher.proofs.Logs.{unaltered}
 use Rattle.dispatcher.proofs.Outcomes.{spot-room, spot-fits, finish-absent, finish-quiet, finish-ends}
 use Rattle.dispatcher.proofs.Core.finish.Statement.{statement}
 use Rattle.dispatcher.proofs.Core.finish.Tie as tie
@@ -35,7 +36,7 @@ refuse-requires-2 : tie.Need-refuse-requires-2
 refuse-requires-2 c κs = search needs
 
 returns : tie.Need-returns
-returns c = search (finish-quiet, array-length, needs)
+returns c = unaltered _ _ _ (search (finish-quiet, array-length, needs))
 
 with-job-requires : tie.Need-with-job-requires
 with-job-requires c κs = search needs
@@ -44,10 +45,10 @@ accept-requires : tie.Need-accept-requires
 accept-requires c κs = search (spot-room, array-length, needs)
 
 returns-2 : tie.Need-returns-2
-returns-2 c = search (finish-absent, finish-ends, array-length, needs)
+returns-2 c = unaltered _ _ _ (search (finish-absent, finish-ends, array-length, needs))
 
 returns-3 : tie.Need-returns-3
-returns-3 c = search (finish-absent, finish-ends, array-length, needs)
+returns-3 c = unaltered _ _ _ (search (finish-absent, finish-ends, array-length, needs))
 
 pub finish-spec : {M : Type 1} → statement M
 finish-spec =

@@ -1,5 +1,6 @@
 use borrow.Author.Needs.{needs}
 use Rattle.dispatcher.proofs.Places.{array-length}
+use Rattle.dispatcher.proofs.Logs.{unaltered}
 use Rattle.dispatcher.proofs.Outcomes.{spot-room, spot-fits, release-absent, release-early, release-late, release-starts}
 use Rattle.dispatcher.proofs.Core.release.Statement.{statement}
 use Rattle.dispatcher.proofs.Core.release.Tie as tie
@@ -35,7 +36,7 @@ refuse-requires-2 : tie.Need-refuse-requires-2
 refuse-requires-2 c κs = search needs
 
 returns : tie.Need-returns
-returns c = search (release-early, array-length, needs)
+returns c = unaltered _ _ _ (search (release-early, array-length, needs))
 
 cast-refuse-2 : tie.Need-cast-refuse-2
 cast-refuse-2 c = search needs
@@ -44,7 +45,7 @@ refuse-requires-3 : tie.Need-refuse-requires-3
 refuse-requires-3 c κs = search needs
 
 returns-2 : tie.Need-returns-2
-returns-2 c = search (release-late, array-length, needs)
+returns-2 c = unaltered _ _ _ (search (release-late, array-length, needs))
 
 with-job-requires : tie.Need-with-job-requires
 with-job-requires c κs = search needs
@@ -53,10 +54,10 @@ accept-requires : tie.Need-accept-requires
 accept-requires c κs = search (spot-room, array-length, needs)
 
 returns-3 : tie.Need-returns-3
-returns-3 c = search (release-absent, release-starts, array-length, needs)
+returns-3 c = unaltered _ _ _ (search (release-absent, release-starts, array-length, needs))
 
 returns-4 : tie.Need-returns-4
-returns-4 c = search (release-absent, release-starts, array-length, needs)
+returns-4 c = unaltered _ _ _ (search (release-absent, release-starts, array-length, needs))
 
 pub release-spec : {M : Type 1} → statement M
 release-spec =

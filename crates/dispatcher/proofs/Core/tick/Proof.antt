@@ -1,5 +1,6 @@
 use borrow.Author.Needs.{needs}
 use Rattle.dispatcher.proofs.Places.{array-length}
+use Rattle.dispatcher.proofs.Logs.{serves-first}
 use Rattle.dispatcher.proofs.Outcomes.{op-foreign, count-max, changed-max, place-room, offset-fits, tick-idles, pending-left, tick-serves}
 use Rattle.dispatcher.proofs.Core.tick.Statement.{statement}
 use Rattle.dispatcher.proofs.Core.tick.Tie as tie
@@ -19,7 +20,7 @@ refuse-requires : tie.Need-refuse-requires
 refuse-requires c κs = search needs
 
 returns : tie.Need-returns
-returns c = search (op-foreign, needs)
+returns c = serves-first _ _ (search (op-foreign, needs))
 
 first-pending-requires : tie.Need-first-pending-requires
 first-pending-requires c κs = search (count-max, needs)
@@ -28,7 +29,7 @@ all-aged-requires : tie.Need-all-aged-requires
 all-aged-requires c κs = search (count-max, needs)
 
 returns-2 : tie.Need-returns-2
-returns-2 c = search (tick-idles, array-length, needs)
+returns-2 c = serves-first _ _ (search (tick-idles, array-length, needs))
 
 mul-t : tie.Need-mul-t
 mul-t c = search offset-fits
@@ -49,7 +50,7 @@ all-aged-requires-2 : tie.Need-all-aged-requires-2
 all-aged-requires-2 c κs = search (changed-max, needs)
 
 returns-3 : tie.Need-returns-3
-returns-3 c = search (tick-serves, array-length, needs)
+returns-3 c = serves-first _ _ (search (tick-serves, array-length, needs))
 
 pub tick-spec : {M : Type 1} → statement M
 tick-spec =
