@@ -6,7 +6,10 @@ use mathlib.Core.Logic.{_↔_}
 use mathlib.Core.Bool.{Bool, true, false, false≢true}
 use mathlib.Core.Option.{Option, none, some, Option·some-ne-none, Option·none-ne-some, Option·some-injective}
 use mathlib.Core.List.{List, [], _∷_, _++_}
-use Rattle.sheet.specs.Table.{Refused, Row, _at_, scan, AllKept, FirstBroken, Without, whole, core}
+use borrow.Author.Tests.{eqb-false}
+use lib.Dec.{eqb}
+use Rattle.sheet.specs.Table.{Refused, Row, _at_, scan, AllKept, FirstBroken, hasRule, whole, core}
+use Rattle.sheet.proofs.Ranges.{neither}
 use Rattle.sheet.proofs.Scans.{scan-first}
 
 -- A table finds nothing exactly when all its rules are kept.
@@ -47,21 +50,29 @@ scan-exactly rows k x = (to rows, λ b. ap scan (b .split) ∙ scan-past (b .bef
         let s = same _ _ e in
         record { before = []; after = rows; split = rw (s .0, s .1); kept = tt }
 
--- a table without rule k, before the answer k at x, alone, and after it
+-- rows that are not of rule k, before the answer k at x, alone, and after it
 module _ (k x : ℕ) where
-  passed : (a b : List Row) → Without k a → scan (a ++ b) ≡ some (record { number = k; place = x }) → AllKept a × (scan b ≡ some (record { number = k; place = x }))
-  unfolding scan AllKept Without
+  other : (j y : ℕ) (rows : List Row) → hasRule k (j at some y ∷ rows) ≡ false → j ≡ k → ⊥
+  unfolding hasRule
+  other j y rows w e = eqb-false k j (neither (eqb k j) (hasRule k rows) w .0) (sym e)
+
+  later : (j : ℕ) (o : Option ℕ) (rows : List Row) → hasRule k (j at o ∷ rows) ≡ false → hasRule k rows ≡ false
+  unfolding hasRule
+  later j o rows w = neither (eqb k j) (hasRule k rows) w .1
+
+  passed : (a b : List Row) → hasRule k a ≡ false → scan (a ++ b) ≡ some (record { number = k; place = x }) → AllKept a × (scan b ≡ some (record { number = k; place = x }))
+  unfolding scan AllKept
   passed [] b w e = (tt, e)
-  passed ((j at none) ∷ a) b w e = let r = passed a b (w .1) e in ((refl, r .0), r .1)
-  passed ((j at some y) ∷ a) b w e = absurd (w .0 (sym (same _ _ e .0)))
+  passed ((j at none) ∷ a) b w e = let r = passed a b (later j none a w) e in ((refl, r .0), r .1)
+  passed ((j at some y) ∷ a) b w e = absurd (other j y a w (same _ _ e .0))
 
-  never : (b : List Row) → Without k b → scan b ≡ some (record { number = k; place = x }) → ⊥
-  unfolding scan Without
+  never : (b : List Row) → hasRule k b ≡ false → scan b ≡ some (record { number = k; place = x }) → ⊥
+  unfolding scan
   never [] w e = Option·none-ne-some _ e
-  never ((j at none) ∷ b) w e = never b (w .1) e
-  never ((j at some y) ∷ b) w e = w .0 (sym (same _ _ e .0))
+  never ((j at none) ∷ b) w e = never b (later j none b w) e
+  never ((j at some y) ∷ b) w e = other j y b w (same _ _ e .0)
 
-  found : (m b : List Row) → Without k b → scan (m ++ b) ≡ some (record { number = k; place = x }) → scan m ≡ some (record { number = k; place = x })
+  found : (m b : List Row) → hasRule k b ≡ false → scan (m ++ b) ≡ some (record { number = k; place = x }) → scan m ≡ some (record { number = k; place = x })
   unfolding scan
   found [] b w e = absurd (never b w e)
   found ((j at none) ∷ m) b w e = found m b w e
@@ -69,7 +80,7 @@ module _ (k x : ℕ) where
 
 -- Where all rows of rule k stand in a part of a table, the first broken rule is k at x exactly when all rules before the part are kept
 -- and it is k at x in the part.
-pub part-exactly : (a m b : List Row) (k x : ℕ) → Without k a → Without k b → FirstBroken (a ++ (m ++ b)) k x ↔ (AllKept a × FirstBroken m k x)
+pub part-exactly : (a m b : List Row) (k x : ℕ) → hasRule k a ≡ false → hasRule k b ≡ false → FirstBroken (a ++ (m ++ b)) k x ↔ (AllKept a × FirstBroken m k x)
 part-exactly a m b k x wa wb = (
   (λ t. let r = passed k x a (m ++ b) wa (scan-exactly (a ++ (m ++ b)) k x .1 t) in (r .0, scan-exactly m k x .0 (found k x m b wb (r .1)))),
   (λ t. scan-exactly (a ++ (m ++ b)) k x .0 (scan-past a (m ++ b) (t .0) ∙ sym (scan-first m b _ (sym (scan-exactly m k x .1 (t .1)))))),

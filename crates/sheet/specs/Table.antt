@@ -1,9 +1,10 @@
 -- Document 01, "Refused sheets and calls": a refusal, and a table of rules that is read from the top.
 use Prim.Native.Nat.{ℕ, _+_}
-use mathlib.Core.Bool.{Bool, true, false}
+use mathlib.Core.Bool.{Bool, true, false, _||_}
 use mathlib.Core.Option.{Option, none, some, Option·map}
 use mathlib.Core.Path.{_≡_}
 use mathlib.Core.List.{List, [], _∷_, _++_}
+use lib.Dec.{eqb}
 use Rattle.sheet.specs.declared.Found.{Found}
 use Rattle.sheet.specs.declared.Found.the-variants.{At, Nothing}
 use Rattle.sheet.specs.declared.Finding.{Finding}
@@ -38,10 +39,10 @@ pub record FirstBroken (rows : List Row) (k x : ℕ) : Type 0 where
   pub split : rows ≡ before ++ k at some x ∷ after
   pub kept : AllKept before
 
--- no row of a table is of rule k
-unfoldable pub Without : ℕ → List Row → Type 0
-Without k [] = Unit {0}
-Without k ((j at o) ∷ rows) = (k ≡ j → ⊥) × Without k rows
+-- a row of a table is of rule k
+unfoldable pub hasRule : ℕ → List Row → Bool
+hasRule k [] = false
+hasRule k ((j at o) ∷ rows) = eqb k j || hasRule k rows
 
 -- a rule of the whole has place 0
 unfoldable pub whole : Bool → Option ℕ
