@@ -1,3 +1,4 @@
+pub mod Offsets
 pub mod Spares
 pub mod Bare
 pub mod Judging

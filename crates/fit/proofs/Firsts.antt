@@ -14,9 +14,10 @@ use lib.Arith.{lt-of-le-ne}
 use lib.Dec.{eqb}
 use Rattle.sheet.specs.Table.{core}
 use Rattle.sheet.proofs.Exactly.{core-exactly}
-use Rattle.fit.specs.Lists.{numbers, find, findSome}
+use Rattle.fit.specs.Lists.{numbers, find, findSome, orElse, Each, EachPair}
 use Rattle.fit.specs.Fits.{chainBreak, Multiple, Multiples, lastFactor}
 use Rattle.fit.specs.Firsts.{FirstAt, FirstAnswer, FirstBreak}
+use Rattle.fit.proofs.Lists.{each-of}
 use Rattle.fit.proofs.Finds.{findSome-none, as-answer, find-answer}
 use Rattle.fit.proofs.Levels.{multiple-mod, mod-multiple}
 
@@ -93,6 +94,54 @@ core-find-exactly q c x = (
   (λ e. let (k, t, z) = core-exactly (find q (numbers 0 c)) x .0 e in (k, find-exactly q c k .0 t, z)),
   (λ h. core-exactly (find q (numbers 0 c)) x .1 (h .0, find-exactly q c (h .0) .1 (h .1), h .2)),
 )
+
+-- in any list: nothing is found exactly where nothing passes; what is found has what each of the list has, and passes; and in a rising list
+-- nothing lower passes
+pub none-exactly : (q : ℕ → Bool) (l : List ℕ) → (find q l ≡ none) ↔ Each (λ y. q y ≡ false) l
+unfolding find Each
+none-exactly q l = (to l, back l)
+  where
+    to : (l : List ℕ) → find q l ≡ none → Each (λ y. q y ≡ false) l
+    to [] e = tt
+    to (y ∷ l) e = by (q y) refl e (to l)
+      where
+        by : (b : Bool) → q y ≡ b → cond b (some y) (find q l) ≡ none → (find q l ≡ none → Each (λ y. q y ≡ false) l) → (q y ≡ false) × Each (λ y. q y ≡ false) l
+        by true t e rec = absurd (Option·some-ne-none y e)
+        by false t e rec = (t, rec e)
+
+    back : (l : List ℕ) → Each (λ y. q y ≡ false) l → find q l ≡ none
+    back [] h = refl
+    back (y ∷ l) h = rw (h .0) (back l (h .1))
+
+module _ (q : ℕ → Bool) (x : ℕ) where
+  pub found-each : (P : ℕ → Type 0) (l : List ℕ) → find q l ≡ some x → Each P l → P x × (q x ≡ true)
+  unfolding find Each
+  found-each P [] e h = absurd (Option·none-ne-some x e)
+  found-each P (y ∷ l) e h = by (q y) refl e (λ r. found-each P l r (h .1))
+    where
+      by : (b : Bool) → q y ≡ b → cond b (some y) (find q l) ≡ some x → (find q l ≡ some x → P x × (q x ≡ true)) → P x × (q x ≡ true)
+      by true t e rec = let z = Option·some-injective y x e in rw (← z) (h .0, t)
+      by false t e rec = rec e
+
+  pub found-lowest : (l : List ℕ) → EachPair _<_ l → find q l ≡ some x → Each (λ y. y < x → q y ≡ false) l
+  unfolding find Each EachPair
+  found-lowest [] r e = tt
+  found-lowest (y ∷ l) r e = by (q y) refl e (found-lowest l (r .1))
+    where
+      by : (b : Bool) → q y ≡ b → cond b (some y) (find q l) ≡ some x → (find q l ≡ some x → Each (λ y. y < x → q y ≡ false) l) → (y < x → q y ≡ false) × Each (λ y. y < x → q y ≡ false) l
+      by true t e rec =
+          let z : y ≡ x = Option·some-injective y x e in
+          ((λ h. absurd (omega arith)), each-of l (λ u a h. absurd (omega arith)) (r .0))
+      by false t e rec = ((λ h. t), rec e)
+
+pub find-append : (q : ℕ → Bool) (l m : List ℕ) → find q (l ++ m) ≡ orElse (find q l) (find q m)
+unfolding find
+find-append q [] m = refl
+find-append q (y ∷ l) m = by (q y) (find-append q l m)
+  where
+    by : (b : Bool) → find q (l ++ m) ≡ orElse (find q l) (find q m) → cond b (some y) (find q (l ++ m)) ≡ orElse (cond b (some y) (find q l)) (find q m)
+    by true h = refl
+    by false h = h
 
 -- A chain is broken at the first task whose factor is no multiple of the one before it.
 pub break-exactly : (M : ℕ → ℕ) (d : ℕ) (l : List ℕ) (i : ℕ) → (chainBreak M d l ≡ some i) ↔ FirstBreak M d l i
