@@ -148,11 +148,11 @@ fits-keep f t =
     (row-clear 14 _ _ (core-none _ (keeps (overloadedOn f) _ (λ k h. le-ltb _ _ (t .load k h)))) end-clear)
 
 -- rule 6: a byte is zero exactly when it is not set
-is-zero : (r : List ℕ) (x : ℕ) → isSet r x ≡ false → getD r x 0 ≡ 0
+pub is-zero : (r : List ℕ) (x : ℕ) → isSet r x ≡ false → getD r x 0 ≡ 0
 unfolding isSet
 is-zero r x e = eqb-true _ _ (not-false _ e)
 
-not-set : (r : List ℕ) (x : ℕ) → getD r x 0 ≡ 0 → isSet r x ≡ false
+pub not-set : (r : List ℕ) (x : ℕ) → getD r x 0 ≡ 0 → isSet r x ≡ false
 unfolding isSet
 not-set r x e = rw e
 
@@ -183,7 +183,7 @@ frame-kept s e =
       size = eqb-true _ _ (not-false _ (whole-clear _ (g .0)));
     }
 
-frame-keep : (s : List ℕ) → Framed s → scan (frameRows s) ≡ none
+pub frame-keep : (s : List ℕ) → Framed s → scan (frameRows s) ≡ none
 unfolding frameRows isMarked
 frame-keep s t =
     row-clear 1 _ _ (whole-none _ (le-ltb (length s) 8 (omega (arith, t .size))))

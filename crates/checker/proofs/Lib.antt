@@ -5,3 +5,4 @@ pub mod Judging
 pub mod Clear
 pub mod Acceptance
 pub mod Sound
+pub mod Refused
