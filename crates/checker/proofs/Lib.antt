@@ -5,4 +5,5 @@ pub mod Judging
 pub mod Clear
 pub mod Acceptance
 pub mod Sound
+pub mod Lowest
 pub mod Refused
