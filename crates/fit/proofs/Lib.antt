@@ -7,3 +7,4 @@ pub mod Finds
 pub mod Rings
 pub mod Selecting
 pub mod Firsts
+pub mod Periodic
