@@ -7,3 +7,4 @@ pub mod Acceptance
 pub mod Sound
 pub mod Lowest
 pub mod Refused
+pub mod Periodic

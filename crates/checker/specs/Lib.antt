@@ -4,3 +4,4 @@ pub mod Verdict
 pub mod Accepted
 pub mod Steps
 pub mod Places
+pub mod Periodic
