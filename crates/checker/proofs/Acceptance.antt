@@ -1,6 +1,6 @@
 -- The verdict is "accepted" exactly when the sheet is acceptable; and what follows for each core.
 -- Assumes nothing.
-use Prim.Native.Nat.{ℕ, zero, suc, _+_, _-_, _*_, _≤_, _<_, zero-le}
+use Prim.Native.Nat.{ℕ, _+_, _*_, _≤_, _<_, zero-le}
 use mathlib.Core.Path.{_≡_, refl, sym, _∙_}
 use mathlib.Core.Logic.{_↔_}
 use mathlib.Core.Bool.{Bool, true, false, true≢false}
@@ -20,12 +20,14 @@ use Rattle.fit.specs.Lists.{numbers, find, Each}
 use Rattle.fit.specs.Priority.{order, isOn}
 use Rattle.fit.specs.Fits.{stretched, overloaded}
 use Rattle.fit.proofs.Finds.{find-none, none-find, find-some, findSome-none, none-findSome}
+use Rattle.fit.proofs.Firsts.{none-exactly}
 use Rattle.fit.proofs.Lists.{each-of, each-both}
 use Rattle.fit.proofs.Priority.{order-members, order-count, order-rising}
 use Rattle.fit.proofs.Levels.{chain-multiples, multiples-chain, multiples-pairs, level-load, budget-within, within-period}
 use Rattle.fit.specs.Cores.{orderOn}
-use Rattle.checker.specs.Tests.{isMarked, taskSpares, coreSpares, isSet, badCore, isNone, bare, badFactor, badPivot, stretchedAt, chainBreakOn, overloadedOn}
+use Rattle.checker.specs.Tests.{isMarked, isSet, badCore, isNone, bare, badFactor, badPivot, stretchedAt, chainBreakOn, overloadedOn}
 use Rattle.checker.specs.Rules.{offset, frameRows, spareRows, taskRows, coreRows, fitRows, recordRows, rules}
+use Rattle.checker.proofs.Offsets.{task-all, task-each, core-all, core-each}
 use Rattle.checker.specs.Verdict.{accepted, outcome, verdict}
 use Rattle.checker.specs.Accepted.{LoadAtMostOne, Framed, SparesZero, TasksInRange, CoresInRange, CoresFit, Fitting, Acceptable, Schedulable, CoreOf}
 
@@ -146,78 +148,20 @@ fits-keep f t =
     (row-clear 14 _ _ (core-none _ (keeps (overloadedOn f) _ (λ k h. le-ltb _ _ (t .load k h)))) end-clear)
 
 -- rule 6: a byte is zero exactly when it is not set
-is-zero : (r : List ℕ) (x : ℕ) → isSet r x ≡ false → getD r x 0 ≡ 0
+pub is-zero : (r : List ℕ) (x : ℕ) → isSet r x ≡ false → getD r x 0 ≡ 0
 unfolding isSet
 is-zero r x e = eqb-true _ _ (not-false _ e)
 
-not-set : (r : List ℕ) (x : ℕ) → getD r x 0 ≡ 0 → isSet r x ≡ false
+pub not-set : (r : List ℕ) (x : ℕ) → getD r x 0 ≡ 0 → isSet r x ≡ false
 unfolding isSet
 not-set r x e = rw e
 
--- a search finds nothing exactly where the first does not pass and nothing is found after it
-step-none : (q : ℕ → Bool) (x : ℕ) (l : List ℕ) → find q (x ∷ l) ≡ none → (q x ≡ false) × (find q l ≡ none)
-unfolding find
-step-none q x l e = by (q x) refl
-  where
-    by : (b : Bool) → q x ≡ b → (q x ≡ false) × (find q l ≡ none)
-    by true t = absurd (Option·some-ne-none x (rw t at e))
-    by false t = (t, rw t at e)
+-- nothing is found among spare bytes exactly when each is zero
+spared : (r l : List ℕ) → find (isSet r) l ≡ none → Each (λ x. getD r x 0 ≡ 0) l
+spared r l e = each-of l (is-zero r) (none-exactly (isSet r) l .0 e)
 
-none-step : (q : ℕ → Bool) (x : ℕ) (l : List ℕ) → q x ≡ false → find q l ≡ none → find q (x ∷ l) ≡ none
-unfolding find
-none-step q x l e h = rw e h
-
--- rule 6 in the task records and in the core records
-tasks-spared : (r : List ℕ) (a n : ℕ) → find (isSet r) (taskSpares a n) ≡ none → (i : ℕ) → i < n → getD r (a + 10 * i + 5) 0 ≡ 0
-unfolding taskSpares
-tasks-spared r a zero e i h = absurd (omega arith)
-tasks-spared r a (suc n) e zero h =
-    let z : a + 10 * 0 + 5 ≡ a + 5 = omega arith in
-    rw z (is-zero r (a + 5) (step-none (isSet r) (a + 5) (taskSpares (a + 10) n) e .0))
-tasks-spared r a (suc n) e (suc i) h =
-    let z : a + 10 * suc i + 5 ≡ a + 10 + 10 * i + 5 = omega arith in
-    rw z (tasks-spared r (a + 10) n (step-none (isSet r) (a + 5) (taskSpares (a + 10) n) e .1) i (omega arith))
-
-spared-tasks : (r : List ℕ) (a n : ℕ) → ((i : ℕ) → i < n → getD r (a + 10 * i + 5) 0 ≡ 0) → find (isSet r) (taskSpares a n) ≡ none
-unfolding taskSpares find
-spared-tasks r a zero f = refl
-spared-tasks r a (suc n) f =
-    let z : a + 10 * 0 + 5 ≡ a + 5 = omega arith in
-    let first : getD r (a + 5) 0 ≡ 0 = rw z at (f 0 (omega arith)) in
-    none-step (isSet r) (a + 5) (taskSpares (a + 10) n) (not-set r (a + 5) first) (spared-tasks r (a + 10) n rest)
-  where
-    rest : (i : ℕ) → i < n → getD r (a + 10 + 10 * i + 5) 0 ≡ 0
-    rest i h =
-        let z : a + 10 * suc i + 5 ≡ a + 10 + 10 * i + 5 = omega arith in
-        rw z at (f (suc i) (omega arith))
-
-cores-spared : (r : List ℕ) (a c : ℕ) → find (isSet r) (coreSpares a c) ≡ none → (k : ℕ) → k < c → (getD r (a + 8 * k + 2) 0 ≡ 0) × (getD r (a + 8 * k + 3) 0 ≡ 0)
-unfolding coreSpares
-cores-spared r a zero e k h = absurd (omega arith)
-cores-spared r a (suc c) e zero h =
-    let u = step-none (isSet r) (a + 2) ((a + 3) ∷ coreSpares (a + 8) c) e in
-    let v = step-none (isSet r) (a + 3) (coreSpares (a + 8) c) (u .1) in
-    let z : a + 8 * 0 ≡ a = omega arith in
-    rw z (is-zero r (a + 2) (u .0), is-zero r (a + 3) (v .0))
-cores-spared r a (suc c) e (suc k) h =
-    let u = step-none (isSet r) (a + 2) ((a + 3) ∷ coreSpares (a + 8) c) e in
-    let v = step-none (isSet r) (a + 3) (coreSpares (a + 8) c) (u .1) in
-    let z : a + 8 * suc k ≡ a + 8 + 8 * k = omega arith in
-    rw z (cores-spared r (a + 8) c (v .1) k (omega arith))
-
-spared-cores : (r : List ℕ) (a c : ℕ) → ((k : ℕ) → k < c → (getD r (a + 8 * k + 2) 0 ≡ 0) × (getD r (a + 8 * k + 3) 0 ≡ 0)) → find (isSet r) (coreSpares a c) ≡ none
-unfolding coreSpares find
-spared-cores r a zero f = refl
-spared-cores r a (suc c) f =
-    let z : a + 8 * 0 ≡ a = omega arith in
-    let first : (getD r (a + 2) 0 ≡ 0) × (getD r (a + 3) 0 ≡ 0) = rw z at (f 0 (omega arith)) in
-    none-step (isSet r) (a + 2) ((a + 3) ∷ coreSpares (a + 8) c) (not-set r (a + 2) (first .0))
-    (none-step (isSet r) (a + 3) (coreSpares (a + 8) c) (not-set r (a + 3) (first .1)) (spared-cores r (a + 8) c rest))
-  where
-    rest : (k : ℕ) → k < c → (getD r (a + 8 + 8 * k + 2) 0 ≡ 0) × (getD r (a + 8 + 8 * k + 3) 0 ≡ 0)
-    rest k h =
-        let z : a + 8 * suc k ≡ a + 8 + 8 * k = omega arith in
-        rw z at (f (suc k) (omega arith))
+spares-none : (r l : List ℕ) → Each (λ x. getD r x 0 ≡ 0) l → find (isSet r) l ≡ none
+spares-none r l h = none-exactly (isSet r) l .1 (each-of l (not-set r) h)
 
 -- rules 1 to 5
 pub frame-kept : (s : List ℕ) → none ≡ scan (frameRows s) → Framed s
@@ -239,7 +183,7 @@ frame-kept s e =
       size = eqb-true _ _ (not-false _ (whole-clear _ (g .0)));
     }
 
-frame-keep : (s : List ℕ) → Framed s → scan (frameRows s) ≡ none
+pub frame-keep : (s : List ℕ) → Framed s → scan (frameRows s) ≡ none
 unfolding frameRows isMarked
 frame-keep s t =
     row-clear 1 _ _ (whole-none _ (le-ltb (length s) 8 (omega (arith, t .size))))
@@ -263,7 +207,7 @@ accepted-clear s n c e = by (scan (rules s)) e
 
 -- acceptance, from the table and back
 from-table : (s : List ℕ) → none ≡ scan (rules s) → Acceptable s
-unfolding rules spareRows recordRows
+unfolding rules spareRows recordRows Each
 from-table s e =
     let f : Figures = figures s in
     let a = scan-clears (frameRows s) (spareRows (taskCount s) (coreCount s) s (drop 8 s) ++ recordRows f) e in
@@ -277,23 +221,23 @@ from-table s e =
       frame = frame-kept s (a .0);
       spares =
           record {
-            header = is-zero s 7 (step-none (isSet s) 7 [] (x .0) .0);
-            tasks = λ i h. rw (zero-add (10 * i)) at (tasks-spared (drop 8 s) 0 (taskCount s) (offset-clear _ (y .0)) i h);
-            cores = cores-spared (drop 8 s) (10 * taskCount s) (coreCount s) (offset-clear _ (z .0));
+            header = spared s (7 ∷ []) (x .0) .0;
+            tasks = λ i h. rw (zero-add (10 * i)) at (task-each (λ x. getD (drop 8 s) x 0 ≡ 0) 0 (taskCount s) (spared (drop 8 s) _ (offset-clear _ (y .0))) i h);
+            cores = core-each (λ x. getD (drop 8 s) x 0 ≡ 0) (10 * taskCount s) (coreCount s) (spared (drop 8 s) _ (offset-clear _ (z .0)));
           };
       fitting = record { tasks = tasks-kept f (d .0); cores = cores-kept f (g .0); fits = fits-kept f (g .1) };
     }
 
 to-table : (s : List ℕ) → Acceptable s → scan (rules s) ≡ none
-unfolding rules spareRows recordRows find
+unfolding rules spareRows recordRows Each
 to-table s t =
     let g : Fitting (figures s) = t .fitting in
     let b : SparesZero s = t .spares in
     both-clear (frameRows s) _ (frame-keep s (t .frame))
     (both-clear (spareRows (taskCount s) (coreCount s) s (drop 8 s)) _
-    (row-clear 6 _ _ (none-step (isSet s) 7 [] (not-set s 7 (b .header)) refl)
-    (row-clear 6 _ _ (offset-none _ (spared-tasks (drop 8 s) 0 (taskCount s) (λ i h. rw (zero-add (10 * i)) (b .tasks i h))))
-    (row-clear 6 _ _ (offset-none _ (spared-cores (drop 8 s) (10 * taskCount s) (coreCount s) (b .cores))) end-clear)))
+    (row-clear 6 _ _ (spares-none s (7 ∷ []) (b .header, tt))
+    (row-clear 6 _ _ (offset-none _ (spares-none (drop 8 s) _ (task-all (λ x. getD (drop 8 s) x 0 ≡ 0) 0 (taskCount s) (λ i h. rw (zero-add (10 * i)) (b .tasks i h)))))
+    (row-clear 6 _ _ (offset-none _ (spares-none (drop 8 s) _ (core-all (λ x. getD (drop 8 s) x 0 ≡ 0) (10 * taskCount s) (coreCount s) (b .cores)))) end-clear)))
     (both-clear (taskRows (figures s)) _ (tasks-keep (figures s) (g .tasks))
     (both-clear (coreRows (figures s)) _ (cores-keep (figures s) (g .cores)) (fits-keep (figures s) (g .fits)))))
 

@@ -60,11 +60,11 @@ none-findSome g a zero h = refl
 none-findSome g a (suc n) h = rw (h a (omega arith) (omega arith)) (none-findSome g (suc a) n (λ i b c. h i (omega arith) (omega arith)))
 
 -- so nothing is found exactly where nothing passes the test
-as-answer : (q : ℕ → Bool) → ℕ → Option ℕ
+abbrev pub as-answer : (q : ℕ → Bool) → ℕ → Option ℕ
 as-answer q i = cond (q i) (some i) none
 
-find-answer : (q : ℕ → Bool) (l : List ℕ) → find q l ≡ findSome (as-answer q) l
-unfolding find findSome as-answer
+pub find-answer : (q : ℕ → Bool) (l : List ℕ) → find q l ≡ findSome (as-answer q) l
+unfolding find findSome
 find-answer q [] = refl
 find-answer q (i ∷ l) = by (q i) (find-answer q l)
   where
@@ -73,7 +73,6 @@ find-answer q (i ∷ l) = by (q i) (find-answer q l)
     by false e = e
 
 pub find-none : (q : ℕ → Bool) (a n : ℕ) → find q (numbers a n) ≡ none → (i : ℕ) → a ≤ i → i < a + n → q i ≡ false
-unfolding as-answer
 find-none q a n e i h h′ = by (q i) (findSome-none (as-answer q) a n (sym (find-answer q (numbers a n)) ∙ e) i h h′)
   where
     by : (b : Bool) → _≡_ {A = Option ℕ} (cond b (some i) none) none → b ≡ false
@@ -81,7 +80,6 @@ find-none q a n e i h h′ = by (q i) (findSome-none (as-answer q) a n (sym (fin
     by false r = refl
 
 pub none-find : (q : ℕ → Bool) (a n : ℕ) → ((i : ℕ) → a ≤ i → i < a + n → q i ≡ false) → find q (numbers a n) ≡ none
-unfolding as-answer
 none-find q a n h = find-answer q (numbers a n) ∙ none-findSome (as-answer q) a n (λ i b c. rw (h i b c))
 
 -- what is found passes the test

@@ -14,7 +14,7 @@ use Rattle.fit.specs.Lists.{sum, Each, EachPair}
 use Rattle.fit.specs.Fits.{chainBreak, Multiple, Multiples, lastFactor, load, within}
 use Rattle.fit.proofs.Lists.{each-of, each-append, each-halves, each-split, each-between, pairs-before, sum-append}
 
--- a number is a multiple of itself; multiples are transitive; where the remainder is 0 there is a multiple
+-- multiples: of itself, of a multiple, and exactly where nothing is left of a division
 multiple-self : (m : ℕ) → Multiple m m
 unfolding Multiple
 multiple-self m = (1, sym (mul-one m))
@@ -23,9 +23,13 @@ multiple-trans : (a b c : ℕ) → Multiple a b → Multiple b c → Multiple a 
 unfolding Multiple
 multiple-trans a b c h k = (h .0 * k .0, k .1 ∙ rw (h .1) (mul-assoc a (h .0) (k .0)))
 
-multiple-mod : (d m : ℕ) → m % d ≡ 0 → Multiple d m
+pub multiple-mod : (d m : ℕ) → m % d ≡ 0 → Multiple d m
 unfolding Multiple
 multiple-mod d m h = (m / d, omega (arith, div-add-mod m d))
+
+pub mod-multiple : (d m : ℕ) → Multiple d m → m % d ≡ 0
+unfolding Multiple
+mod-multiple d m h = rw (h .1) (mul-mod-right d (h .0))
 
 -- a chain has no break where each factor is a multiple of the one before, and nowhere else
 pub chain-multiples : (M : ℕ → ℕ) (d : ℕ) (l : List ℕ) → chainBreak M d l ≡ none → Multiples M d l
@@ -38,11 +42,9 @@ chain-multiples M d (i ∷ l) h = by (eqb (M i % d) 0) refl h (λ q. chain-multi
     by false e q r = absurd (Option·some-ne-none i q)
 
 pub multiples-chain : (M : ℕ → ℕ) (d : ℕ) (l : List ℕ) → Multiples M d l → chainBreak M d l ≡ none
-unfolding chainBreak Multiple Multiples
+unfolding chainBreak Multiples
 multiples-chain M d [] h = refl
-multiples-chain M d (i ∷ l) h =
-    let e : M i % d ≡ 0 = rw (h .0 .1) (mul-mod-right d (h .0 .0)) in
-    rw (eq-eqb (M i % d) 0 e) (multiples-chain M (M i) l (h .1))
+multiples-chain M d (i ∷ l) h = rw (eq-eqb (M i % d) 0 (mod-multiple d (M i) (h .0))) (multiples-chain M (M i) l (h .1))
 
 -- in a chain each factor is a multiple of all before it, and the last factor of all
 multiples-first : (M : ℕ → ℕ) (d : ℕ) (l : List ℕ) → Multiples M d l → Each (λ i. Multiple d (M i)) l

@@ -6,3 +6,5 @@ pub mod Levels
 pub mod Finds
 pub mod Rings
 pub mod Selecting
+pub mod Firsts
+pub mod Periodic

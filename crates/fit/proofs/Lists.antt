@@ -93,6 +93,17 @@ module _ {A : Type 0} (P : A → Type 0) where
   unfolding Each
   each-between xs x ys e h = each-halves xs (x ∷ ys) (subst (Each P) e h) .1 .0
 
+-- what follows for two from their own properties and from a relation, or from two relations, follows for each pair
+pub pairs-of : {A : Type 0} {P : A → Type 0} {R S : A → A → Type 0} (l : List A) → ((x y : A) → P x → P y → R x y → S x y) → Each P l → EachPair R l → EachPair S l
+unfolding Each EachPair
+pairs-of [] f p h = tt
+pairs-of (x ∷ l) f p h = (each-both l (λ y a b. f x y (p .0) a b) (p .1) (h .0), pairs-of l f (p .1) (h .1))
+
+pub pairs-both : {A : Type 0} {R S U : A → A → Type 0} (l : List A) → ((x y : A) → R x y → S x y → U x y) → EachPair R l → EachPair S l → EachPair U l
+unfolding EachPair
+pairs-both [] f h k = tt
+pairs-both (x ∷ l) f h k = (each-both l (f x) (h .0) (k .0), pairs-both l f (h .1) (k .1))
+
 module _ {A : Type 0} (R : A → A → Type 0) where
   -- the first k of a list
   pub pairs-take : (k : ℕ) (l : List A) → EachPair R l → EachPair R (take k l)

@@ -10,7 +10,8 @@ use lib.ListN.{getD, List·getD-append}
 use Rattle.sheet.specs.Records.{Figures}
 use Rattle.fit.specs.Lists.{Each}
 use Rattle.fit.specs.Fits.{within, load, lastFactor}
-use Rattle.fit.proofs.Lists.{each-append}
+use Rattle.fit.proofs.Lists.{each-append, each-of}
+use Rattle.fit.proofs.Priority.{order-members}
 use Rattle.fit.specs.Cores.{orderOn, withinOn}
 use Rattle.checker.specs.Accepted.{Fitting, LoadAtMostOne}
 use Rattle.listing.specs.Decimal.{decimal, valueFrom}
@@ -50,6 +51,11 @@ rounded a b h = (div-mul-le-self a b, rw (mul-comm (a / b + 1) b) (lt-mul-div-su
 pub within-shown : (f : Figures) (i : ℕ) → Fitting f → i < f .tasks → (withinOn f (f .core i) i * f .divisor (f .core i) ≤ f .pivot (f .core i) * f .factor i) × (f .pivot (f .core i) * f .factor i < (withinOn f (f .core i) i + 1) * f .divisor (f .core i))
 unfolding withinOn within
 within-shown f i g h = rounded _ _ (g .cores .divisor (f .core i) (g .tasks .core i h) .0)
+
+-- It is the w that the on-time rule goes by, of each task on its core.
+pub listed-within : (f : Figures) (k : ℕ) → Each (λ i. withinOn f (f .core i) i ≡ withinOn f k i) (orderOn f k)
+unfolding orderOn
+listed-within f k = each-of _ (λ i m. rw (m .1)) (order-members (f .period) (f .core) k (f .tasks))
 
 -- The load shown of each core is its exact load, of which Q × L is the whole, in thousandths rounded down; it is at most 1000.
 module _ (f : Figures) (k : ℕ) (g : Fitting f) (h : k < f .cores) where

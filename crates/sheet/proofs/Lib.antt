@@ -1,3 +1,4 @@
 pub mod Past
 pub mod Scans
 pub mod Ranges
+pub mod Exactly

@@ -1,0 +1,137 @@
+-- A core keeps rules 12, 13 and 14 exactly when its tasks are an accelerated simply periodic set that rises in priority order.
+-- Assumes nothing.
+use Prim.Native.Nat.{ℕ, _+_, _*_, _/_, _≤_, _<_}
+use mathlib.Core.Path.{_≡_, refl, sym, ap, _∙_}
+use mathlib.Core.Logic.{_↔_}
+use mathlib.Core.Option.{some}
+use mathlib.Core.List.{List, [], _∷_}
+use native.Mathlib.Nat.{mul-one, one-mul, mul-zero, zero-mul, mul-assoc, mul-comm, mul-right-comm, mul-mul-mul-comm, mul-div-right, add-mul, mul-pos, mul-le-mul-left, mul-le-mul-right, le-of-mul-le-mul-left, le-of-mul-le-mul-right, eq-of-mul-eq-mul-left, eq-of-mul-eq-mul-right, lt-of-mul-lt-mul-left}
+use native.Mathlib.Omega.{arith}
+use Rattle.fit.specs.Lists.{at, sum, Each, EachPair}
+use Rattle.fit.specs.Fits.{chainBreak, Multiple, Multiples, lastFactor, load, exactLoad, fullLoad}
+use Rattle.fit.specs.Periodic.{Fraction, wholeNumber, AtMost, Times, WholeRatio, plus, total, accelerated, utilisation, AcceleratedSet, Rising}
+use Rattle.fit.proofs.Lists.{each-of, each-all, pairs-of, pairs-both}
+use Rattle.fit.proofs.Levels.{multiples-pairs, multiples-last, last-positive}
+
+module _ (M : ℕ → ℕ) (Q D : ℕ) (q : 1 ≤ Q) (d : 1 ≤ D) where
+  -- accelerated periods compare as their factors do
+  factors-rise : (i j : ℕ) → AtMost (accelerated M Q D i) (accelerated M Q D j) → M i ≤ M j
+  unfolding AtMost accelerated
+  factors-rise i j h = le-of-mul-le-mul-left (le-of-mul-le-mul-right h d) q
+
+  periods-rise : (i j : ℕ) → M i ≤ M j → AtMost (accelerated M Q D i) (accelerated M Q D j)
+  unfolding AtMost accelerated
+  periods-rise i j h = mul-le-mul-right D (mul-le-mul-left Q h)
+
+  -- and are multiples as they are
+  factors-times : (i j c : ℕ) → Times c (accelerated M Q D i) (accelerated M Q D j) → Multiple (M i) (M j)
+  unfolding Times accelerated Multiple
+  factors-times i j c h =
+      let a : Q * M j ≡ c * (Q * M i) = eq-of-mul-eq-mul-right D d _ _ h in
+      (c, eq-of-mul-eq-mul-left Q q _ _ (a ∙ mul-comm c (Q * M i) ∙ mul-assoc Q (M i) c))
+
+  periods-times : (i j c : ℕ) → M j ≡ M i * c → Times c (accelerated M Q D i) (accelerated M Q D j)
+  unfolding Times accelerated
+  periods-times i j c h = rw (h, ← (mul-assoc Q (M i) c), mul-comm (Q * M i) c)
+
+  -- so two tasks in rising order have a whole ratio exactly where the second factor is a multiple of the first
+  pair-multiple : (i j : ℕ) → WholeRatio (accelerated M Q D i) (accelerated M Q D j) → AtMost (accelerated M Q D i) (accelerated M Q D j) → Multiple (M i) (M j)
+  unfolding WholeRatio
+  pair-multiple i j w h = let t = w .0 h in factors-times i j (t .0) (t .1)
+
+  multiple-rises : (i j : ℕ) → 1 ≤ M j → Multiple (M i) (M j) → M i ≤ M j
+  unfolding Multiple
+  multiple-rises i j p m =
+      let once : 0 < m .0 = lt-of-mul-lt-mul-left (M i) (rw (mul-zero (M i), ← (m .1)) p) in
+      rw (m .1) (rw (mul-one (M i)) at (mul-le-mul-left (M i) once))
+
+  multiple-pair : (i j : ℕ) → 1 ≤ M j → Multiple (M i) (M j) → WholeRatio (accelerated M Q D i) (accelerated M Q D j)
+  unfolding WholeRatio Multiple
+  multiple-pair i j p m = ((λ h. (m .0, periods-times i j (m .0) (m .1))), (λ h. (1, periods-times j i 1 (same h))))
+    where
+      same : AtMost (accelerated M Q D j) (accelerated M Q D i) → M i ≡ M j * 1
+      same h = omega (arith, factors-rise j i h, multiple-rises i j p m)
+
+-- a chain is a list of which each pair is a multiple
+pairs-chain : (M : ℕ → ℕ) (d : ℕ) (l : List ℕ) → Each (λ i. Multiple d (M i)) l → EachPair (λ i j. Multiple (M i) (M j)) l → Multiples M d l
+unfolding Each EachPair Multiples
+pairs-chain M d [] a h = tt
+pairs-chain M d (i ∷ l) a h = (a .0, pairs-chain M (M i) l (h .0) (h .1))
+
+from-one : (m : ℕ) → Multiple 1 m
+unfolding Multiple
+from-one m = (m, sym (one-mul m))
+
+-- one task more in the sum of fractions and in the load
+one-more : (E c A b u load : ℕ) → u * (A * c) ≡ load * b → (E * b + u * A) * (A * c) ≡ (E * c + load) * (A * b)
+one-more E c A b u load h =
+    let x : E * b * (A * c) ≡ E * c * (A * b) = rw (mul-comm A c, mul-comm A b) (mul-mul-mul-comm E b c A) in
+    let y : u * A * (A * c) ≡ load * (A * b) = mul-right-comm u A (A * c) ∙ rw h (mul-assoc load b A ∙ rw (mul-comm b A)) in
+    add-mul (E * b) (u * A) (A * c) ∙ rw (x, y) (sym (add-mul (E * c) load (A * b)))
+
+-- a task's part of the time
+abbrev part : (ℕ → ℕ) → (ℕ → ℕ) → ℕ → ℕ → ℕ → Fraction
+part e M Q D i = utilisation (e i) (accelerated M Q D i)
+
+module _ (e M : ℕ → ℕ) (Q D : ℕ) (q : 1 ≤ Q) where
+  lower-positive : (l : List ℕ) → Each (λ i. 1 ≤ M i) l → 0 < total (part e M Q D) l .lower
+  unfolding total plus utilisation accelerated wholeNumber Each
+  lower-positive [] p = omega arith
+  lower-positive (i ∷ l) p = mul-pos (mul-pos q (p .0)) (lower-positive l (p .1))
+
+  -- the sum of the fractions is the load, of which Q × L is the whole
+  total-load : (L : ℕ) (l : List ℕ) → Each (λ i. 1 ≤ M i) l → Each (λ i. Multiple (M i) L) l → total (part e M Q D) l .upper * (Q * L) ≡ load e M D L l * total (part e M Q D) l .lower
+  unfolding total plus utilisation accelerated wholeNumber load sum Each Multiple
+  total-load L [] p m = zero-mul (Q * L)
+  total-load L (i ∷ l) p m =
+      let c : ℕ = m .0 .0 in
+      let a : Q * L ≡ Q * M i * c = rw (m .0 .1) (sym (mul-assoc Q (M i) c)) in
+      let b : L / M i ≡ c = rw (m .0 .1) (mul-div-right c (p .0)) in
+      let r : total (part e M Q D) l .upper * (Q * M i * c) ≡ load e M D L l * total (part e M Q D) l .lower = rw a at (total-load L l (p .1) (m .1)) in
+      rw (a, b) (one-more (e i * D) c (Q * M i) (total (part e M Q D) l .lower) (total (part e M Q D) l .upper) (load e M D L l) r)
+
+  full-load : (L : ℕ) (l : List ℕ) → 1 ≤ L → Each (λ i. 1 ≤ M i) l → Each (λ i. Multiple (M i) L) l → AtMost (total (part e M Q D) l) (wholeNumber 1) ↔ (load e M D L l ≤ Q * L)
+  unfolding AtMost wholeNumber
+  full-load L l pos p m =
+      let eq = total-load L l p m in (
+        (λ h. le-of-mul-le-mul-right (rw (← eq, mul-comm (Q * L) (total (part e M Q D) l .lower)) (mul-le-mul-right (Q * L) (omega arith))) (lower-positive l p)),
+        (λ h. rw (mul-one, one-mul) (le-of-mul-le-mul-right (rw (eq, mul-comm (total (part e M Q D) l .lower) (Q * L)) (mul-le-mul-right (total (part e M Q D) l .lower) h)) (mul-pos q pos))),
+      )
+
+module _ (p e M : ℕ → ℕ) (Q D : ℕ) (q : 1 ≤ Q) (d : 1 ≤ D) (l : List ℕ) (pos : Each (λ i. 1 ≤ M i) l) where
+  load-exactly : Multiples M 1 l → AtMost (total (part e M Q D) l) (wholeNumber 1) ↔ (exactLoad e M D l ≤ fullLoad M Q l)
+  load-exactly m = full-load e M Q D q (lastFactor M 1 l) l (last-positive M 1 l (omega arith) pos) pos (multiples-last M 1 l m)
+
+  -- The tasks of a core are an accelerated simply periodic set that rises in priority order exactly when rules 12, 13 and 14 hold of them.
+  pub paper-exactly : (AcceleratedSet p e M Q D l × Rising M Q D l) ↔ (Each (λ i. Q * M i ≤ p i * D) l × Multiples M 1 l × (exactLoad e M D l ≤ fullLoad M Q l))
+  unfolding AtMost accelerated wholeNumber Rising
+  paper-exactly = (to, back)
+    where
+      to : AcceleratedSet p e M Q D l × Rising M Q D l → Each (λ i. Q * M i ≤ p i * D) l × Multiples M 1 l × (exactLoad e M D l ≤ fullLoad M Q l)
+      to t =
+          let m : Multiples M 1 l = pairs-chain M 1 l (each-all _ l (λ i. from-one (M i))) (pairs-both l (pair-multiple M Q D q d) (t .0 .simply-periodic) (t .1)) in
+          (each-of l (λ i h. omega arith) (t .0 .faster), m, load-exactly m .0 (t .0 .full))
+
+      back : Each (λ i. Q * M i ≤ p i * D) l × Multiples M 1 l × (exactLoad e M D l ≤ fullLoad M Q l) → AcceleratedSet p e M Q D l × Rising M Q D l
+      back t =
+          let pairs = multiples-pairs M 1 l (t .1) in (
+            record {
+              faster = each-of l (λ i h. omega arith) (t .0);
+              simply-periodic = pairs-of l (λ i j a b h. multiple-pair M Q D q d i j b h) pos pairs;
+              full = load-exactly (t .1) .1 (t .2);
+            },
+            pairs-of l (λ i j a b h. periods-rise M Q D q d i j (multiple-rises M Q D q d i j b h)) pos pairs,
+          )
+
+-- The chain asks for the rise too: a task of period 5 and budget 1 with factor 2 above one of 6 and 1 with factor 1, pivot 2 and divisor 1,
+-- have accelerated periods 4 and 2. They are an accelerated simply periodic set, and the chain breaks at task 1.
+pub falling-set : AcceleratedSet (at (5 ∷ 6 ∷ [])) (at (1 ∷ 1 ∷ [])) (at (2 ∷ 1 ∷ [])) 2 1 (0 ∷ 1 ∷ []) × (chainBreak (at (2 ∷ 1 ∷ [])) 1 (0 ∷ 1 ∷ []) ≡ some 1)
+unfolding AtMost Times WholeRatio plus total accelerated utilisation wholeNumber Each EachPair chainBreak
+falling-set = (
+  record {
+    faster = (omega arith, (omega arith, tt));
+    simply-periodic = ((((λ h. absurd (omega arith)), (λ h. (2, refl))), tt), (tt, tt));
+    full = omega arith;
+  },
+  refl,
+)
