@@ -8,3 +8,4 @@ pub mod Decoding
 pub mod Accepting
 pub mod Planning
 pub mod Inside
+pub mod Written
