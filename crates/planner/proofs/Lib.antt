@@ -3,6 +3,7 @@ pub mod Fitting
 pub mod Rating
 pub mod Writing
 pub mod Calls
+pub mod Asking
 pub mod Settling
 pub mod Decoding
 pub mod Accepting
