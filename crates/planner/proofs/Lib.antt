@@ -8,5 +8,6 @@ pub mod Settling
 pub mod Decoding
 pub mod Accepting
 pub mod Planning
+pub mod Walking
 pub mod Inside
 pub mod Written
