@@ -32,7 +32,7 @@ use Rattle.capi.specs.declared.StepAnswer.{StepAnswer}
 use Rattle.capi.specs.Answers.{checkedOf, plannedOf, listedOf, steppedOf, tickedOf}
 
 -- no refusal has the number 0
-positive : (w : Refusal) → 1 ≤ numberOf w
+pub positive : (w : Refusal) → 1 ≤ numberOf w
 positive words.Stub = lit≤ tt
 positive words.Mark = lit≤ tt
 positive words.Version = lit≤ tt

@@ -13,6 +13,7 @@ ghost use Rattle.dispatcher.specs.Operations.{answerOf, ask, step};
 ghost use Rattle.dispatcher.specs.Starts.{sheetAnswer, sheetState, listAnswer, listState};
 ghost use Rattle.dispatcher.specs.OnTime.{Kept};
 ghost use Rattle.capi.specs.Answers.{checkedOf, plannedOf, listedOf, steppedOf, tickedOf};
+ghost use Rattle.capi.specs.Planned.{RunsOnTime};
 use checker::Verdict;
 use dispatcher::Answer;
 use dispatcher::Core;
@@ -80,11 +81,13 @@ pub extern "C" fn homvaits_check(sheet: &[u8]) -> Checked
     }
 }
 
+// The checker accepts the sheet that is written, and every core of it starts and runs the listed jobs on time, whatever calls follow.
 #[no_mangle]
 pub extern "C" fn homvaits_plan(jobs: &[u8], limit: u64, start: u64, out: &mut [u8]) -> PlanAnswer
     ensures { λ r. ⌜ r ≡ plannedOf (planOutcome (now (jobs .entry)) limit start (length (now (out .entry)))) ⌝ }
     ensures { λ _. ⌜ now (out .exit) ≡ planOutput (now (jobs .entry)) limit start (now (out .entry)) ⌝ }
     ensures accepts { λ r. ⌜ (r .refusal ≡ 0 → verdict (take (r .length) (now (out .exit))) ≡ accepted (r .tasks) (r .cores)) ⌝ }
+    ensures on_time { λ r. ⌜ (r .refusal ≡ 0 → RunsOnTime (now (jobs .entry)) (take (r .length) (now (out .exit))) (r .cores)) ⌝ }
 {
     let answer = planner::plan(jobs, limit, start, out);
     match answer {

@@ -2,18 +2,20 @@
 -- Assumes nothing.
 use Prim.Native.Nat.{ℕ, zero, suc, _+_, _*_, _/_, _≤_, _<_, zero-le}
 use mathlib.Core.Path.{_≡_, refl, sym, ap, ap₂, subst, _∙_}
+use mathlib.Core.Logic.{⊎-elim}
 use mathlib.Core.Bool.{Bool, true, false, cond, _&&_, true≢false, false≢true}
 use mathlib.Core.Option.{Option, none, some, Option·some-injective, Option·none-ne-some}
 use mathlib.Core.List.{List, [], _∷_, map}
 use native.Mathlib.Nat.{zero-add, mul-one, le-refl}
 use native.Mathlib.Omega.{arith}
-use borrow.Author.Tests.{le-leb, le-ltb, not-true}
+use borrow.Author.Tests.{le-leb, le-ltb, eq-eqb, not-true}
 use lib.ListN.{length, length-map}
 use lib.Dec.{leb, ltb, eqb}
 use Rattle.sheet.proofs.Ranges.{both}
-use Rattle.fit.specs.Lists.{numbers, sum, Each, at}
+use Rattle.fit.specs.Lists.{numbers, sum, Each, EachPair, at}
+use Rattle.fit.specs.Priority.{Above}
 use Rattle.fit.specs.Fits.{stretched, Multiples, lastFactor, load, overloaded}
-use Rattle.fit.proofs.Lists.{each-append}
+use Rattle.fit.proofs.Lists.{each-append, each-both}
 use Rattle.figures.specs.declared.Outcome.{Outcome}
 use Rattle.figures.specs.Constructions.{Acceleration, leastPower, largestPower, sr, dct}
 use Rattle.figures.specs.Meaning.{Rising, Factors, Sound}
@@ -114,6 +116,23 @@ passing-accepted p e M l a h m =
   where
     inside : (j : ℕ) → j < length l → j < length (map p l)
     inside j k = omega (arith, length-map l p)
+
+-- Tasks in priority order whose periods are in range are a set of tasks: of them the answer is that of the first trial that passes.
+rising-tasks : (p : ℕ → ℕ) (a : ℕ) (l : List ℕ) → EachPair (Above p) l → Each (λ i. (a ≤ p i) × (p i ≤ 60000)) l → rising a (map p l) ≡ true
+unfolding Above Each EachPair rising
+rising-tasks p a [] h r = refl
+rising-tasks p a (i ∷ l) h r =
+    rw (le-leb a (p i) (r .0 .0), le-leb (p i) 60000 (r .0 .1))
+    (rising-tasks p (p i) l (h .1) (each-both l (λ j x y. (⊎-elim (λ z. omega arith) (λ z. omega arith) x, y .1)) (h .0) (r .1)))
+
+module _ (p e : ℕ → ℕ) (l : List ℕ) (few : length l ≤ 64) (order : EachPair (Above p) l) (period : Each (λ i. (1 ≤ p i) × (p i ≤ 60000)) l) where
+  pub tasks-are-set : taskSet (map p l) (map e l) ≡ true
+  unfolding taskSet
+  tasks-are-set = rw (length-map l p, length-map l e, le-leb (length l) 64 few, eq-eqb (length l) (length l) refl) (rising-tasks p 1 l order period)
+
+  pub passing-tried : firstPassing (map p l) (map e l) ≡ first (map e l) (trials (map p l))
+  unfolding firstPassing
+  passing-tried = rw tasks-are-set
 
 -- a task alone passes
 pub alone : (p e : ℕ) → 1 ≤ p → p ≤ 60000 → e ≤ p → firstPassing (p ∷ []) (e ∷ []) ≡ some (record { Q = p; D = 1; factors = 1 ∷ [] })

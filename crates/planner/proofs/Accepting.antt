@@ -234,6 +234,15 @@ module _ (p e : ℕ → ℕ) (n limit : ℕ) (a : Assignment) (small : limit ≤
           rw (f-core i h, f-pivot (at (a .core) i) (placed i h), f-divisor (at (a .core) i) (placed i h))
           (ltb-false _ _ (each-occurs (λ i. stretched (Q (at (a .core) i)) (D (at (a .core) i)) (f .period i) (f .factor i) ≡ false) i (on (at (a .core) i)) (on-holds i h) (accelerated-there i h)))
 
+  -- so the sheet's periods and budgets are those of the tasks
+  pub sheet-period : (i : ℕ) → i < n → figures (sheetOf p e n a) .period i ≡ p i
+  unfolding sheetOf sheet tasks cores task core M Q D f
+  sheet-period = f-period
+
+  pub sheet-budget : (i : ℕ) → i < n → figures (sheetOf p e n a) .budget i ≡ e i
+  unfolding sheetOf sheet tasks cores task core M Q D f
+  sheet-budget = f-budget
+
   pub sheet-accepted : verdict (sheetOf p e n a) ≡ accepted n (a .cores)
   unfolding sheetOf sheet header tasks cores task core M Q D word f
   sheet-accepted = accepted-exactly sheet n (a .cores) .1 (acceptable, refl, refl)

@@ -3,8 +3,11 @@ pub mod Fitting
 pub mod Rating
 pub mod Writing
 pub mod Calls
+pub mod Asking
 pub mod Settling
 pub mod Decoding
 pub mod Accepting
 pub mod Planning
+pub mod Walking
 pub mod Inside
+pub mod Written

@@ -4,7 +4,7 @@ use Prim.Native.Nat.{ℕ, _/_, _≤_, _<_, min}
 use mathlib.Core.Path.{_≡_, refl, sym, ap, _∙_}
 use mathlib.Core.Bool.{Bool, true, false, cond, not}
 use mathlib.Core.Option.{none, some}
-use mathlib.Core.List.{List, [], _∷_}
+use mathlib.Core.List.{List}
 use native.Mathlib.Omega.{arith}
 use borrow.Author.Tests.{ltb-false, leb-false, eqb-true, not-false}
 use lib.ListN.{length, take, drop}
@@ -20,12 +20,12 @@ use Rattle.sheet.proofs.Scans.{scan-first, scan-second, scan-clears, scan-clear
 use Rattle.fit.specs.declared.By.{By}
 use Rattle.fit.specs.declared.By.the-variants.{Period, Ring}
 use Rattle.fit.specs.declared.Order.{Order}
-use Rattle.fit.specs.Lists.{numbers, select, at, over}
-use Rattle.fit.specs.Priority.{tasksOn, isOn}
+use Rattle.fit.specs.Lists.{at, over}
 use Rattle.fit.proofs.Lists.{numbers-length}
 use Rattle.fit.specs.Ring.{keyOf, orderBy}
 use Rattle.fit.specs.Answers.{Ordered}
 use Rattle.fit.proofs.Priority.{order-length}
+use Rattle.fit.proofs.Rings.{all-tasks}
 use Rattle.jobs.specs.Jobs.{jobCount, jobPeriod, jobBudget, listRows, Listed}
 use Rattle.jobs.proofs.Laws.{listed}
 use Rattle.checker.specs.Verdict.{verdict, accepted}
@@ -43,16 +43,9 @@ all-listed by l n o e few h =
     let all : min n 64 ≡ jobCount l = omega arith in
     rw all at h
 
-all-sorted : (by : By) (p : ℕ → ℕ) (n : ℕ) → length (orderBy by p n) ≡ n
-unfolding orderBy tasksOn select isOn
-all-sorted by p n = order-length (keyOf by p) (λ i. 0) 0 n ∙ ap length (all 0 n) ∙ numbers-length 0 n
-  where
-    all : (a m : ℕ) → select (λ i. eqb 0 0) (numbers a m) ≡ numbers a m
-    all a m = every (numbers a m)
-      where
-        every : (l : List ℕ) → select (λ i. eqb 0 0) l ≡ l
-        every [] = refl
-        every (x ∷ l) = ap (λ (t : List ℕ). x ∷ t) (every l)
+pub all-sorted : (by : By) (p : ℕ → ℕ) (n : ℕ) → length (orderBy by p n) ≡ n
+unfolding orderBy
+all-sorted by p n = order-length (keyOf by p) (λ i. 0) 0 n ∙ rw (all-tasks n) (numbers-length 0 n)
 
 -- first fit over the ring of a list
 pub sorted-long : (by : By) (l : List ℕ) (o : Order) (start n : ℕ) → Ordered (orderBy by (jobPeriod l) (jobCount l)) o → start ≤ n → n ≡ jobCount l → start ≤ length (take (o .count) (o .tasks))

@@ -1,5 +1,6 @@
 use borrow.Author.Needs.{needs}
 use Rattle.capi.proofs.Answers.{planned-written, planned-refused, plan-accepted, plan-refused}
+use Rattle.capi.proofs.Planned.{runs-on-time, refused-runs}
 use Rattle.capi.proofs.homvaits_plan.Statement.{statement}
 use Rattle.capi.proofs.homvaits_plan.Tie as tie
 use Rattle.capi.proofs.homvaits_plan.Reads as reads
@@ -23,13 +24,13 @@ same-length : tie.Need-same-length
 same-length c = search needs
 
 returns : tie.Need-returns
-returns c = (search planned-written, (search needs, λ z. search plan-accepted))
+returns c = (search planned-written, (search needs, (λ z. search plan-accepted, λ z. search runs-on-time)))
 
 same-length-2 : tie.Need-same-length-2
 same-length-2 c = search needs
 
 returns-2 : tie.Need-returns-2
-returns-2 c = (search planned-refused, (search needs, λ z. search plan-refused))
+returns-2 c = (search planned-refused, (search needs, (λ z. search plan-refused, λ z. search refused-runs)))
 
 pub homvaits-plan-spec : {M : Type 1} → statement M
 homvaits-plan-spec =
