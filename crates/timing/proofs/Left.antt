@@ -1,6 +1,6 @@
 -- A task's ticks left are its budget less the ticks that its job was given, and 0 once the job has ended.
 -- Assumes nothing.
-use Prim.Native.Nat.{ℕ, _+_, _≤_, _<_}
+use Prim.Native.Nat.{ℕ, _+_, _<_}
 use mathlib.Core.Path.{_≡_, refl, sym, ap, _∙_}
 use mathlib.Core.Logic.{_⊎_, inl, inr, ⊎-elim, _↔_}
 use mathlib.Core.Bool.{false}
@@ -110,10 +110,10 @@ pending-ended s f h cs before xs j e y = ⊎-elim unfinished over (zero-or-pos (
     l : LeftCounts (log answer next s cs) (run next s cs)
     l = left-counts s f h cs
 
-    unfinished : count (isFinish j) xs ≡ 0 → Each (λ t. t .number ≡ j → (t .left ≡ 0) ↔ ((t .budget ≤ count (isRun j) xs) ⊎ (1 ≤ count (isFinish j) xs))) (run next s cs)
+    unfinished : count (isFinish j) xs ≡ 0 → Each (λ t. t .number ≡ j → (t .left ≡ 0) ↔ Ended (t .budget) j xs) (run next s cs)
     unfinished z = each-of _ (λ t k n. ((λ d. inl (omega (arith, k n))), ⊎-elim (λ d. omega (arith, k n)) (λ d. absurd (omega arith)))) (l .since before xs j e y z)
 
-    over : 0 < count (isFinish j) xs → Each (λ t. t .number ≡ j → (t .left ≡ 0) ↔ ((t .budget ≤ count (isRun j) xs) ⊎ (1 ≤ count (isFinish j) xs))) (run next s cs)
+    over : 0 < count (isFinish j) xs → Each (λ t. t .number ≡ j → (t .left ≡ 0) ↔ Ended (t .budget) j xs) (run next s cs)
     over z =
         let c = count-cut (isFinish j) 0 xs z in
         let w : xs ≡ c .front ++ entry (finish j) accepted ∷ c .back = c .whole ∙ ap (λ x. c .front ++ x ∷ c .back) (finish-entry j (c .hit) (c .passes)) in

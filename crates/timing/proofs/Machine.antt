@@ -72,6 +72,6 @@ module _ {S : Type 0} (ask : Call → S → Answer) (step : Call → S → S) (G
 -- where the bounds and budgets in force are the same at every state, the rule holds with them over every log
 pub machine-on-time : {S : Type 0} (ask : Call → S → Answer) (step : Call → S → S) (Good : S → Type 0) (view : S → ℕ → Task) (w e : ℕ → ℕ) → Machine ask step Good view (λ s. w) (λ s. e) → (cs : List Call) (s : S) → Good s → OnTime w e (log ask step s cs)
 machine-on-time ask step Good view w e M cs s g = record {
-  ends = ends-in-time ask step Good view (λ s. w) (λ s. e) M cs s g;
+  ends = λ before xs rest j a h n. ends-in-time ask step Good view (λ s. w) (λ s. e) M cs s g before xs rest j a h (omega arith);
   never-late = never-late ask step Good view (λ s. w) (λ s. e) M cs s g;
 }
