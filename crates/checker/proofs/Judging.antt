@@ -23,8 +23,8 @@ use Rattle.fit.proofs.Lists.{each-of}
 use Rattle.fit.proofs.Finds.{front}
 use Rattle.fit.proofs.Priority.{order-members, order-count, order-ext}
 use Rattle.fit.proofs.Levels.{load-last}
-use Rattle.checker.specs.declared.Judged.{Judged}
-use Rattle.checker.specs.declared.Judged.the-variants.{Chained, Unchained}
+use Rattle.checker.specs.declared.fits.Judged.{Judged}
+use Rattle.checker.specs.declared.fits.Judged.the-variants.{Chained, Unchained}
 use Rattle.fit.specs.Cores.{orderOn}
 use Rattle.checker.specs.Tests.{chainBreakOn, overloadedOn}
 use Rattle.checker.specs.Steps.{judged, overInRange, InRange, firstOver}

@@ -8,10 +8,10 @@ use mathlib.Core.Bool.{Bool, cond, not, _||_}
 use mathlib.Core.Option.{Option, none, some}
 use Rattle.sheet.specs.Ranges.{badPeriod, badBudget}
 use Rattle.sheet.specs.Records.{Figures}
-use Rattle.checker.specs.declared.Test.{Test}
-use Rattle.checker.specs.declared.Test.the-variants.{Period, Budget, Core, Bare, Factor, Pivot, Stretch}
-use Rattle.checker.specs.declared.Judged.{Judged}
-use Rattle.checker.specs.declared.Judged.the-variants.{Chained, Unchained}
+use Rattle.checker.specs.declared.early.Test.{Test}
+use Rattle.checker.specs.declared.early.Test.the-variants.{Period, Budget, Core, Bare, Factor, Pivot, Stretch}
+use Rattle.checker.specs.declared.fits.Judged.{Judged}
+use Rattle.checker.specs.declared.fits.Judged.the-variants.{Chained, Unchained}
 use Rattle.checker.specs.Rules.{taskRows, coreRows}
 use Rattle.checker.specs.Tests.{badCore, bare, badFactor, badPivot, stretchedAt}
 

@@ -4,9 +4,9 @@ use Rattle.checker.proofs.all_rules.Statement.{statement}
 use Rattle.checker.proofs.all_rules.Tie as tie
 use Rattle.checker.proofs.all_rules.Reads as reads
 use Rattle.checker.proofs.all_rules.Lts as lts
-use Rattle.checker.proofs.framing.Reads as framing-reads
+use Rattle.checker.proofs.frame.framing.Reads as framing-reads
 use Rattle.checker.proofs.record_rules.Reads as record-rules-reads
-use Rattle.checker.proofs.spare_rules.Reads as spare-rules-reads
+use Rattle.checker.proofs.frame.spare_rules.Reads as spare-rules-reads
 use Rattle.sheet.proofs.byte.Reads as byte-reads
 
 framing-requires : tie.Need-framing-requires

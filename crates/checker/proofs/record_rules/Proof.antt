@@ -5,8 +5,8 @@ use Rattle.checker.proofs.record_rules.Statement.{statement}
 use Rattle.checker.proofs.record_rules.Tie as tie
 use Rattle.checker.proofs.record_rules.Reads as reads
 use Rattle.checker.proofs.record_rules.Lts as lts
-use Rattle.checker.proofs.early_rules.Reads as early-rules-reads
-use Rattle.checker.proofs.fit_rules.Reads as fit-rules-reads
+use Rattle.checker.proofs.early.early_rules.Reads as early-rules-reads
+use Rattle.checker.proofs.fits.fit_rules.Reads as fit-rules-reads
 
 early-rules-requires : tie.Need-early-rules-requires
 early-rules-requires c κs = search needs

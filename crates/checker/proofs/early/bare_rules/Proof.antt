@@ -1,0 +1,69 @@
+use borrow.Author.Needs.{needs}
+use Rattle.checker.specs.Rules.{coreRows}
+use Rattle.sheet.proofs.Scans.{scan-skip, scan-hit, scan-none, found-at, found-none, core-at, core-none}
+use Rattle.checker.proofs.Sound.{factors-clear, stretch-clear}
+use Rattle.checker.proofs.early.bare_rules.Statement.{statement}
+use Rattle.checker.proofs.early.bare_rules.Tie as tie
+use Rattle.checker.proofs.early.bare_rules.Reads as reads
+use Rattle.checker.proofs.early.bare_rules.Lts as lts
+use Rattle.checker.proofs.early.first.Reads as first-reads
+
+first-requires : tie.Need-first-requires
+first-requires c κs = search needs
+
+enum-known-bare : tie.Need-enum-known-bare
+enum-known-bare c = search needs
+
+cast-t11 : tie.Need-cast-t11
+cast-t11 c = search needs
+
+add-t12 : tie.Need-add-t12
+add-t12 c = search needs
+
+returns : tie.Need-returns
+unfolding coreRows
+returns c = search (scan-hit, found-at, core-at)
+
+enum-told : tie.Need-enum-told
+enum-told c = search needs
+
+first-requires-2 : tie.Need-first-requires-2
+first-requires-2 c κs = search needs
+
+enum-known-pivot : tie.Need-enum-known-pivot
+enum-known-pivot c = search needs
+
+cast-t14 : tie.Need-cast-t14
+cast-t14 c = search needs
+
+add-t15 : tie.Need-add-t15
+add-t15 c = search needs
+
+returns-2 : tie.Need-returns-2
+unfolding coreRows
+returns-2 c = search (scan-skip, scan-hit, scan-none, found-at, found-none, core-at, core-none, factors-clear _ (c .before .before .before .before .before .before .before .before .before .pre), stretch-clear _ (c .before .before .before .before .before .before .before .before .before .pre)) depth 9
+
+enum-told-2 : tie.Need-enum-told-2
+enum-told-2 c = search needs
+
+returns-3 : tie.Need-returns-3
+unfolding coreRows
+returns-3 c = search (scan-skip, scan-hit, scan-none, found-at, found-none, core-at, core-none, factors-clear _ (c .before .before .before .before .before .before .before .before .pre), stretch-clear _ (c .before .before .before .before .before .before .before .before .pre)) depth 9
+
+pub bare-rules-spec : {M : Type 1} → statement M
+bare-rules-spec =
+    tie.close
+    (tie.spec
+    first-requires
+    enum-known-bare
+    cast-t11
+    add-t12
+    returns
+    enum-told
+    first-requires-2
+    enum-known-pivot
+    cast-t14
+    add-t15
+    returns-2
+    enum-told-2
+    returns-3)

@@ -1,0 +1,51 @@
+use borrow.Author.Needs.{needs}
+use Rattle.fit.specs.Fits.{stretched}
+use Rattle.checker.specs.Tests.{stretchedAt}
+use Rattle.checker.proofs.early.is_stretched.Statement.{statement}
+use Rattle.checker.proofs.early.is_stretched.Tie as tie
+use Rattle.checker.proofs.early.is_stretched.Reads as reads
+use Rattle.checker.proofs.early.is_stretched.Lts as lts
+use Rattle.fit.proofs.product.Reads as product-reads
+use Rattle.sheet.proofs.core.Reads as core-reads
+use Rattle.sheet.proofs.divisor.Reads as divisor-reads
+use Rattle.sheet.proofs.factor.Reads as factor-reads
+use Rattle.sheet.proofs.period.Reads as period-reads
+use Rattle.sheet.proofs.pivot.Reads as pivot-reads
+
+core-requires : tie.Need-core-requires
+core-requires c κs = search needs
+
+pivot-requires : tie.Need-pivot-requires
+pivot-requires c κs = search needs
+
+factor-requires : tie.Need-factor-requires
+factor-requires c κs = search needs
+
+product-requires : tie.Need-product-requires
+product-requires c κs = search needs
+
+period-requires : tie.Need-period-requires
+period-requires c κs = search needs
+
+divisor-requires : tie.Need-divisor-requires
+divisor-requires c κs = search needs
+
+product-requires-2 : tie.Need-product-requires-2
+product-requires-2 c κs = search needs
+
+returns : tie.Need-returns
+unfolding stretchedAt stretched
+returns c = cc
+
+pub is-stretched-spec : {M : Type 1} → statement M
+is-stretched-spec =
+    tie.close
+    (tie.spec
+    core-requires
+    pivot-requires
+    factor-requires
+    product-requires
+    period-requires
+    divisor-requires
+    product-requires-2
+    returns)

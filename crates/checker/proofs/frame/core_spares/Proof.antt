@@ -1,0 +1,99 @@
+use borrow.Author.Needs.{needs}
+use Prim.Native.Nat.{_≤_, _-_, _*_, _+_}
+use mathlib.Core.Path.{_≡_}
+use Rattle.checker.specs.Tests.{coreSpares}
+use Rattle.checker.proofs.Spares.{To, core-start, core-hit, core-hit-2, core-turn, core-end}
+use Rattle.checker.proofs.frame.core_spares.Statement.{statement}
+use Rattle.checker.proofs.frame.core_spares.Tie as tie
+use Rattle.checker.proofs.frame.core_spares.Reads as reads
+use Rattle.checker.proofs.frame.core_spares.Lts as lts
+use Rattle.sheet.proofs.byte.Reads as byte-reads
+
+abbrev Inv-loop : tie.InvT-loop
+Inv-loop records n c at₀ k₀ at k = (k ≤ c) × (at ≡ 10 * n + 8 * k) × To records (coreSpares (10 * n) c) (coreSpares at (c - k))
+
+abbrev μ-loop : tie.MeasureT-loop
+μ-loop records n c at₀ k₀ at k = c - k
+
+mul-at : tie.Need-mul-at Inv-loop μ-loop
+mul-at c = search needs
+
+loop-holds : tie.Need-loop-holds Inv-loop μ-loop
+loop-holds c = (search needs, search needs, search (core-start, needs))
+
+add-byte : tie.Need-add-byte Inv-loop μ-loop
+add-byte c = search needs
+
+byte-requires : tie.Need-byte-requires Inv-loop μ-loop
+byte-requires c κs = search needs
+
+add-t11 : tie.Need-add-t11 Inv-loop μ-loop
+add-t11 c = search needs
+
+cast-t12 : tie.Need-cast-t12 Inv-loop μ-loop
+cast-t12 c = search needs
+
+add-t13 : tie.Need-add-t13 Inv-loop μ-loop
+add-t13 c = search needs
+
+returns : tie.Need-returns Inv-loop μ-loop
+returns c = search (core-hit, needs)
+
+add-byte-2 : tie.Need-add-byte-2 Inv-loop μ-loop
+add-byte-2 c = search needs
+
+byte-requires-2 : tie.Need-byte-requires-2 Inv-loop μ-loop
+byte-requires-2 c κs = search needs
+
+add-t15 : tie.Need-add-t15 Inv-loop μ-loop
+add-t15 c = search needs
+
+cast-t16 : tie.Need-cast-t16 Inv-loop μ-loop
+cast-t16 c = search needs
+
+add-t17 : tie.Need-add-t17 Inv-loop μ-loop
+add-t17 c = search needs
+
+returns-2 : tie.Need-returns-2 Inv-loop μ-loop
+returns-2 c = core-hit-2 _ _ _ _ _ _ (c .before .before .before .before .loop-test .taken) (c .before .before .before .before .before .loop .inv .2) (c .before .before .before .byte .ensures) _ (c .before .before .if1 .left) (c .before .byte2 .ensures) (c .if2 .taken)
+
+add-at : tie.Need-add-at Inv-loop μ-loop
+add-at c = search needs
+
+add-k : tie.Need-add-k Inv-loop μ-loop
+add-k c = search needs
+
+loop-less : tie.Need-loop-less Inv-loop μ-loop
+loop-less c = search needs
+
+loop-again : tie.Need-loop-again Inv-loop μ-loop
+loop-again c = (search needs, search needs, core-turn _ _ _ _ _ _ (c .before .before .before .before .loop-test .taken) (c .before .before .before .before .before .loop .inv .2) (c .before .before .before .byte .ensures) _ (c .before .before .if1 .left) (c .before .byte2 .ensures) (c .if2 .left))
+
+returns-3 : tie.Need-returns-3 Inv-loop μ-loop
+returns-3 c = search (core-end, needs)
+
+pub core-spares-spec : {M : Type 1} → statement M
+core-spares-spec =
+    tie.close
+    (tie.spec
+    Inv-loop
+    μ-loop
+    mul-at
+    loop-holds
+    add-byte
+    byte-requires
+    add-t11
+    cast-t12
+    add-t13
+    returns
+    add-byte-2
+    byte-requires-2
+    add-t15
+    cast-t16
+    add-t17
+    returns-2
+    add-at
+    add-k
+    loop-less
+    loop-again
+    returns-3)

@@ -1,0 +1,206 @@
+// Rules 7 to 12: the figures of tasks and cores.
+ghost use mathlib.Core.Path.{_≡_};
+ghost use mathlib.Core.Bool.{true};
+ghost use Prim.Native.Nat.{ℕ, _<_};
+ghost use Rattle.sheet.specs.Table.{scan, foundOf, findingOf};
+ghost use Rattle.sheet.specs.Ranges.{badPeriod, badBudget};
+ghost use Rattle.sheet.specs.Records.{periodAt, budgetAt, coreAt, factorAt, pivotAt, divisorAt, figuresOf};
+ghost use Rattle.fit.specs.Lists.{numbers, find};
+ghost use Rattle.checker.specs.Tests.{badCore, bare, badFactor, badPivot, stretchedAt};
+ghost use Rattle.checker.specs.Rules.{taskRows, coreRows};
+ghost use Rattle.checker.specs.Steps.{broken, soundAt, earlyRows};
+use sheet::Finding;
+use sheet::Found;
+use sheet::Refusal;
+
+// The rules that are tested at one task or one core.
+enum Test {
+    Period,
+    Budget,
+    Core,
+    Bare,
+    Factor,
+    Pivot,
+    Stretch,
+}
+
+// The tests, each at one task or one core. `tasks` is the sheet's part from byte 8, `cores` its part after the last task.
+
+fn bad_period(tasks: &[u8], i: u8) -> bool
+    ensures { λ r. ⌜ r ≡ badPeriod (periodAt (now (tasks .entry))) i ⌝ }
+{
+    sheet::out_of(60_000, sheet::period(tasks, i) as u32)
+}
+
+fn bad_budget(tasks: &[u8], i: u8) -> bool
+    ensures { λ r. ⌜ r ≡ badBudget (periodAt (now (tasks .entry))) (budgetAt (now (tasks .entry))) i ⌝ }
+{
+    let p = sheet::period(tasks, i);
+    let e = sheet::budget(tasks, i);
+    sheet::out_of(p as u32, e as u32)
+}
+
+fn bad_core(tasks: &[u8], c: u8, i: u8) -> bool
+    ensures { λ r. ⌜ r ≡ badCore c (coreAt (now (tasks .entry))) i ⌝ }
+{
+    c <= sheet::core(tasks, i)
+}
+
+fn is_bare(tasks: &[u8], n: u8, k: u8) -> bool
+    ensures { λ r. ⌜ r ≡ bare n (coreAt (now (tasks .entry))) k ⌝ }
+{
+    let mut i = 0;
+    while i < n {
+        if sheet::core(tasks, i) == k {
+            return false;
+        }
+        i += 1;
+    }
+    true
+}
+
+fn bad_factor(tasks: &[u8], i: u8) -> bool
+    ensures { λ r. ⌜ r ≡ badFactor (factorAt (now (tasks .entry))) i ⌝ }
+{
+    sheet::out_of(120_000, sheet::factor(tasks, i))
+}
+
+fn bad_pivot(cores: &[u8], k: u8) -> bool
+    ensures { λ r. ⌜ r ≡ badPivot (pivotAt (now (cores .entry))) (divisorAt (now (cores .entry))) k ⌝ }
+{
+    let q = sheet::out_of(60_000, sheet::pivot(cores, k) as u32);
+    let d = sheet::out_of(120_000, sheet::divisor(cores, k));
+    q | d
+}
+
+fn is_stretched(tasks: &[u8], cores: &[u8], n: u8, c: u8, i: u8) -> bool
+    ensures { λ r. ⌜ r ≡ stretchedAt (figuresOf n c (now (tasks .entry)) (now (cores .entry))) i ⌝ }
+{
+    let k = sheet::core(tasks, i);
+    let reach = fit::product(sheet::pivot(cores, k), sheet::factor(tasks, i));
+    fit::product(sheet::period(tasks, i), sheet::divisor(cores, k)) < reach
+}
+
+// Whether a rule is broken at a task or core.
+fn is_broken(test: Test, tasks: &[u8], cores: &[u8], n: u8, c: u8, i: u8) -> bool
+    ensures { λ r. ⌜ r ≡ broken test (figuresOf n c (now (tasks .entry)) (now (cores .entry))) i ⌝ }
+{
+    match test {
+        Test::Period => bad_period(tasks, i),
+        Test::Budget => bad_budget(tasks, i),
+        Test::Core => bad_core(tasks, c, i),
+        Test::Bare => is_bare(tasks, n, i),
+        Test::Factor => bad_factor(tasks, i),
+        Test::Pivot => bad_pivot(cores, i),
+        Test::Stretch => is_stretched(tasks, cores, n, c, i),
+    }
+}
+
+// The first of `end` tasks or cores at which a rule is broken.
+fn first(test: Test, tasks: &[u8], cores: &[u8], n: u8, c: u8, end: u8) -> Found
+    ensures { λ r. ⌜ foundOf r ≡ find (broken test (figuresOf n c (now (tasks .entry)) (now (cores .entry)))) (numbers 0 end) ⌝ }
+{
+    let mut i = 0;
+    while i < end {
+        if is_broken(test, tasks, cores, n, c, i) {
+            return Found::At(i);
+        }
+        i += 1;
+    }
+    Found::Nothing
+}
+
+// Rules 7 to 9.
+fn task_rules(tasks: &[u8], cores: &[u8], n: u8, c: u8) -> Finding
+    ensures { λ r. ⌜ findingOf r ≡ scan (taskRows (figuresOf n c (now (tasks .entry)) (now (cores .entry)))) ⌝ }
+{
+    let period = first(Test::Period, tasks, cores, n, c, n);
+    if let Found::At(i) = period {
+        return Finding::Broken(Refusal::Period, i as u16);
+    }
+    let budget = first(Test::Budget, tasks, cores, n, c, n);
+    if let Found::At(i) = budget {
+        return Finding::Broken(Refusal::Budget, i as u16);
+    }
+    let core = first(Test::Core, tasks, cores, n, c, n);
+    if let Found::At(i) = core {
+        return Finding::Broken(Refusal::Core, i as u16);
+    }
+    Finding::Clear
+}
+
+// Rules 10 to 12.
+fn core_rules(tasks: &[u8], cores: &[u8], n: u8, c: u8) -> Finding
+    ensures { λ r. ⌜ findingOf r ≡ scan (coreRows (figuresOf n c (now (tasks .entry)) (now (cores .entry)))) ⌝ }
+{
+    let bare = first(Test::Bare, tasks, cores, n, c, c);
+    if let Found::At(k) = bare {
+        return Finding::Broken(Refusal::Bare, 64 + (k as u16));
+    }
+    let factor = first(Test::Factor, tasks, cores, n, c, n);
+    if let Found::At(i) = factor {
+        return Finding::Broken(Refusal::Factor, i as u16);
+    }
+    let pivot = first(Test::Pivot, tasks, cores, n, c, c);
+    if let Found::At(k) = pivot {
+        return Finding::Broken(Refusal::Factor, 64 + (k as u16));
+    }
+    let stretch = first(Test::Stretch, tasks, cores, n, c, n);
+    if let Found::At(i) = stretch {
+        return Finding::Broken(Refusal::Stretch, i as u16);
+    }
+    Finding::Clear
+}
+
+// Whether rules 7, 8, 9, 11 and 12 are all kept at task i.
+fn is_sound(tasks: &[u8], cores: &[u8], n: u8, c: u8, i: u8) -> bool
+    ensures { λ r. ⌜ r ≡ soundAt (figuresOf n c (now (tasks .entry)) (now (cores .entry))) i ⌝ }
+{
+    let ranges = bad_period(tasks, i) | bad_budget(tasks, i);
+    let figures = bad_core(tasks, c, i) | bad_factor(tasks, i);
+    !((ranges | figures) | is_stretched(tasks, cores, n, c, i))
+}
+
+// Whether they are kept at every task.
+fn all_sound(tasks: &[u8], cores: &[u8], n: u8, c: u8) -> bool
+    ensures { λ r. ⌜ (r ≡ true → (i : ℕ) → i < n → soundAt (figuresOf n c (now (tasks .entry)) (now (cores .entry))) i ≡ true) ⌝ }
+{
+    let mut i = 0;
+    while i < n {
+        if !is_sound(tasks, cores, n, c, i) {
+            return false;
+        }
+        i += 1;
+    }
+    true
+}
+
+// Rules 10 to 12 where every task keeps its rules: 10 and 11 at the cores are left.
+fn bare_rules(tasks: &[u8], cores: &[u8], n: u8, c: u8) -> Finding
+    requires { ⌜ ((i : ℕ) → i < n → soundAt (figuresOf n c (now tasks) (now cores)) i ≡ true) ⌝ }
+    ensures { λ r. ⌜ findingOf r ≡ scan (coreRows (figuresOf n c (now (tasks .entry)) (now (cores .entry)))) ⌝ }
+{
+    let bare = first(Test::Bare, tasks, cores, n, c, c);
+    if let Found::At(k) = bare {
+        return Finding::Broken(Refusal::Bare, 64 + (k as u16));
+    }
+    let pivot = first(Test::Pivot, tasks, cores, n, c, c);
+    if let Found::At(k) = pivot {
+        return Finding::Broken(Refusal::Factor, 64 + (k as u16));
+    }
+    Finding::Clear
+}
+
+// Rules 7 to 12. Most sheets keep all rules at their tasks: one pass tells.
+pub(crate) fn early_rules(tasks: &[u8], cores: &[u8], n: u8, c: u8) -> Finding
+    ensures { λ r. ⌜ findingOf r ≡ scan (earlyRows (figuresOf n c (now (tasks .entry)) (now (cores .entry)))) ⌝ }
+{
+    if all_sound(tasks, cores, n, c) {
+        return bare_rules(tasks, cores, n, c);
+    }
+    let found = task_rules(tasks, cores, n, c);
+    if let Finding::Broken(_, _) = found {
+        return found;
+    }
+    core_rules(tasks, cores, n, c)
+}

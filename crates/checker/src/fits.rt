@@ -1,0 +1,81 @@
+// Rules 13 and 14: the chain and the load of each core.
+ghost use mathlib.Core.Path.{_≡_};
+ghost use Prim.Native.Nat.{ℕ, _<_, min};
+ghost use Rattle.sheet.specs.Table.{scan, findingOf};
+ghost use Rattle.sheet.specs.Records.{periodAt, budgetAt, factorAt, pivotAt, divisorAt, figuresOf};
+ghost use Rattle.fit.specs.Answers.{Column};
+ghost use Rattle.checker.specs.Tests.{chainBreakOn, overloadedOn};
+ghost use Rattle.checker.specs.Rules.{fitRows};
+ghost use Rattle.checker.specs.Steps.{judged, overInRange, InRange, firstOver};
+use fit::Chain;
+use sheet::Finding;
+use sheet::Refusal;
+
+// What rules 13 and 14 say of a core: its chain is whole, and its load is over one or not, or its chain is broken at a task.
+enum Judged {
+    Chained { over: bool },
+    Unchained(u8),
+}
+
+// Whether the load of the listed tasks of core k, whose last factor is given, is above one.
+fn is_over(tasks: &[u8], cores: &[u8], list: &[u8], k: u8, last: u32) -> bool
+    ensures { λ r. ⌜ r ≡ overInRange (budgetAt (now (tasks .entry))) (factorAt (now (tasks .entry))) (pivotAt (now (cores .entry)) k) (divisorAt (now (cores .entry)) k) last (now (list .entry)) ⌝ }
+{
+    let load = fit::load_of(tasks, list, sheet::divisor(cores, k), last);
+    fit::product(sheet::pivot(cores, k), last) < load
+}
+
+// Rules 13 and 14 at core k.
+fn judge(periods: &[u16], tasks: &[u8], cores: &[u8], n: u8, c: u8, k: u8) -> Judged
+    requires { ⌜ InRange (figuresOf n c (now tasks) (now cores)) k × Column (periodAt (now tasks)) (min n 64) (now periods) ⌝ }
+    ensures { λ r. ⌜ r ≡ judged (chainBreakOn (figuresOf n c (now (tasks .entry)) (now (cores .entry))) k) (overloadedOn (figuresOf n c (now (tasks .entry)) (now (cores .entry))) k) ⌝ }
+{
+    let order = fit::on_core(periods, tasks, n, k);
+    let count = order.count;
+    let list = order.tasks;
+    let chain = fit::chain_of(tasks, &list[..count]);
+    match chain {
+        Chain::Broken(i) => Judged::Unchained(i),
+        Chain::Whole(last) => Judged::Chained {
+            over: is_over(tasks, cores, &list[..count], k, last),
+        },
+    }
+}
+
+// The first core that is over, of those before core k (`found`) and core k; 255 stands for none.
+fn first_over(found: u8, k: u8, over: bool) -> u8
+    ensures { λ r. ⌜ r ≡ firstOver found k over ⌝ }
+{
+    if over {
+        if found == 255 {
+            return k;
+        }
+    }
+    found
+}
+
+// Rules 13 and 14. A broken chain of any core comes before every overload.
+pub(crate) fn fit_rules(tasks: &[u8], cores: &[u8], n: u8, c: u8) -> Finding
+    requires { ⌜ ((k : ℕ) → k < c → InRange (figuresOf n c (now tasks) (now cores)) k) ⌝ }
+    ensures { λ r. ⌜ findingOf r ≡ scan (fitRows (figuresOf n c (now (tasks .entry)) (now (cores .entry)))) ⌝ }
+{
+    let periods = fit::periods_of(tasks, 10, n);
+    let mut found = 255;
+    let mut k = 0;
+    while k < c {
+        let judged = judge(&periods, tasks, cores, n, c, k);
+        match judged {
+            Judged::Unchained(i) => {
+                return Finding::Broken(Refusal::Chain, i as u16);
+            }
+            Judged::Chained { over } => {
+                found = first_over(found, k, over);
+                k += 1;
+            }
+        }
+    }
+    if found == 255 {
+        return Finding::Clear;
+    }
+    Finding::Broken(Refusal::Overload, 64 + (found as u16))
+}
