@@ -1,5 +1,5 @@
--- The bench cards A to M, small inputs each with what it must give, and the listings of B and C, as one table about the definitions
--- (docs/SHEET.md, sections 4 to 8).
+-- The bench cards A to O, small inputs each with what it must give, and the listings of B and C, as one table about the definitions
+-- (docs/SHEET.md, sections 4 to 8). N and O are our own, worked out by hand from sections 5 and 4.
 use Prim.Native.Nat.{ℕ}
 use Prim.Native.String.{String}
 use mathlib.Core.Path.{_≡_}
@@ -23,12 +23,15 @@ use Rattle.planner.specs.Plan as planner
 use Rattle.listing.specs.Words.{codes, lineFeed}
 use Rattle.listing.specs.Listing.{listingOf}
 
--- a header with n and c, the record of a task on core 0, and that of a core, with numbers below 256
+-- a header with n and c, and records of numbers below 256; a task is on core k, or on core 0
 abbrev pub header : (n c : ℕ) → List ℕ
 header n c = 0x54 ∷ 0x53 ∷ 0x48 ∷ 1 ∷ 0 ∷ n ∷ c ∷ 0 ∷ []
 
+abbrev pub taskOn : (k p e M : ℕ) → List ℕ
+taskOn k p e M = p ∷ 0 ∷ e ∷ 0 ∷ k ∷ 0 ∷ M ∷ 0 ∷ 0 ∷ 0 ∷ []
+
 abbrev pub task : (p e M : ℕ) → List ℕ
-task p e M = p ∷ 0 ∷ e ∷ 0 ∷ 0 ∷ 0 ∷ M ∷ 0 ∷ 0 ∷ 0 ∷ []
+task = taskOn 0
 
 abbrev pub core : (Q D : ℕ) → List ℕ
 core Q D = Q ∷ 0 ∷ 0 ∷ 0 ∷ D ∷ 0 ∷ 0 ∷ 0 ∷ []
@@ -36,6 +39,10 @@ core Q D = Q ∷ 0 ∷ 0 ∷ 0 ∷ D ∷ 0 ∷ 0 ∷ 0 ∷ []
 -- the sheet of card B, (3,1), (7,1) and (13,6) with pivot 3, divisor 1 and factors 1, 2 and 4, but with this last budget and last factor
 abbrev pub listed : (e M : ℕ) → List ℕ
 listed e M = header 3 1 ++ (task 3 1 1 ++ (task 7 1 2 ++ (task 13 e M ++ core 3 1)))
+
+-- two tasks of which the second's factor is no multiple of the first's
+abbrev pub unchained : List ℕ
+unchained = header 2 1 ++ (task 5 1 2 ++ (task 6 1 1 ++ core 2 1))
 
 -- seven bytes
 abbrev pub seven : List ℕ
@@ -56,6 +63,9 @@ jobsI = job 5 1 ++ job 9 7
 
 abbrev pub jobsL : List ℕ
 jobsL = job 5 2 ++ job 7 4
+
+abbrev pub jobsN : List ℕ
+jobsN = job 3 1 ++ (job 4 1 ++ job 5 3)
 
 -- what the planner answers with limit 1, start 0 and an output of 712 bytes, and the sheet that it makes
 abbrev pub answer : List ℕ → planner.Outcome
@@ -170,5 +180,12 @@ pub record Cards : Type 0 where
   pub K : onSheet (sheetOf jobsI) logK ≡ run logK
   pub L : onBench jobsL logL ≡ run logL
   pub M : ring (7 ∷ 16 ∷ 21 ∷ []) 3 ≡ 16 ∷ 21 ∷ 7 ∷ []
+  -- The ring is 1, 2, 0. From start 1 the walk is 2, 0, 1: tasks 2 and 0 pass together by Sr with pivot 5, and task 1 gets a new core.
+  -- From start 0 tasks 1 and 2 pass together with pivot 4, and task 0 gets a new core.
+  pub N :
+      (planOutcome jobsN 2 1 712 ≡ planner.written 3 2 54)
+      × (sheetFor jobsN (fitOf jobsN 2 1) ≡ header 3 2 ++ (taskOn 0 3 1 1 ++ (taskOn 1 4 1 1 ++ (taskOn 0 5 3 2 ++ (core 5 2 ++ core 4 1)))))
+      × (sheetFor jobsN (fitOf jobsN 2 0) ≡ header 3 2 ++ (taskOn 1 3 1 1 ++ (taskOn 0 4 1 1 ++ (taskOn 0 5 3 1 ++ (core 4 1 ++ core 3 1)))))
+  pub O : verdict unchained ≡ checker.refused 13 1
   pub listingB : listingOf (listed 6 4) ≡ text linesB
   pub listingC : listingOf (listed 7 4) ≡ text linesC

@@ -1,10 +1,10 @@
-// Runs the bench cards (specs/Cards.antt) through the code and prints one line for each, then the listing of the sheets of B and C.
+// Runs the cards of specs/Cards.antt through the code and prints one line for each, then the listing of the sheets of B and C.
 ghost use Prim.Native.Nat.{_+_, _*_, _≤_};
 ghost use mathlib.Core.Path.{_≡_};
 ghost use lib.ListN.{length};
 ghost use Rattle.io.specs.Counts.{Counts};
 ghost use Rattle.fit.specs.Fits.{within as withinOf};
-ghost use Rattle.cards.specs.Cards.{header, listed as listedSheet, seven, jobsG, jobsH, jobsI, jobsL};
+ghost use Rattle.cards.specs.Cards.{header, listed as listedSheet, seven, jobsG, jobsH, jobsI, jobsL, jobsN, unchained as unchainedSheet};
 use checker::Verdict;
 use dispatcher::Answer;
 use dispatcher::Core;
@@ -80,7 +80,19 @@ fn jobs_l() -> [u8; 8]
     *b"\x05\x00\x02\x00\x07\x00\x04\x00"
 }
 
-// Cards A to F: what the checker answers.
+fn jobs_n() -> [u8; 12]
+    ensures { λ r. ⌜ r ≡ jobsN ⌝ }
+{
+    *b"\x03\x00\x01\x00\x04\x00\x01\x00\x05\x00\x03\x00"
+}
+
+fn unchained() -> [u8; 36]
+    ensures { λ r. ⌜ r ≡ unchainedSheet ⌝ }
+{
+    *b"TSH\x01\x00\x02\x01\x00\x05\x00\x01\x00\x00\x00\x02\x00\x00\x00\x06\x00\x01\x00\x00\x00\x01\x00\x00\x00\x02\x00\x00\x00\x01\x00\x00\x00"
+}
+
+// Cards A to F, and O: what the checker answers.
 fn check_card(name: &[u8], sheet: &[u8]) {
     print(name);
     let verdict = checker::check(sheet);
@@ -130,6 +142,14 @@ fn print_within(tasks: &[u8], n: u8, q: u16, d: u32) {
     }
 }
 
+// Q and D of core k.
+fn print_figures(cores: &[u8], k: u8) {
+    print(b" pivot");
+    print_number(sheet::pivot(cores, k) as u64);
+    print(b" divisor");
+    print_number(sheet::divisor(cores, k) as u64);
+}
+
 // The figures of core 0 of a sheet, and the factors and w of its n tasks.
 fn print_rates(sheet: &[u8], n: u8)
     requires { ⌜ 8 + 10 * n ≤ length (now sheet) ⌝ }
@@ -137,16 +157,11 @@ fn print_rates(sheet: &[u8], n: u8)
     let at = 8 + 10 * (n as usize);
     let tasks = &sheet[8..];
     let cores = &sheet[at..];
-    let q = sheet::pivot(cores, 0);
-    let d = sheet::divisor(cores, 0);
-    print(b" pivot");
-    print_number(q as u64);
-    print(b" divisor");
-    print_number(d as u64);
+    print_figures(cores, 0);
     print(b" factors");
     print_factors(tasks, n);
     print(b" within");
-    print_within(tasks, n, q, d);
+    print_within(tasks, n, sheet::pivot(cores, 0), sheet::divisor(cores, 0));
 }
 
 // Cards G, H and I: what the planner makes with limit 1 and start 0. The length of the sheet is returned, 0 where it is refused.
@@ -258,6 +273,52 @@ fn card_m() {
     print(b"\n");
 }
 
+fn print_cores(tasks: &[u8], n: u8) {
+    let mut i = 0;
+    while i < n {
+        print_number(sheet::core(tasks, i) as u64);
+        i += 1;
+    }
+}
+
+fn print_all_figures(cores: &[u8], c: u8) {
+    let mut k = 0;
+    while k < c {
+        print_figures(cores, k);
+        k += 1;
+    }
+}
+
+// The core and the factor of each of n tasks of a sheet, and the figures of its c cores.
+fn print_sheet(sheet: &[u8], n: u8, c: u8)
+    requires { ⌜ 8 + 10 * n ≤ length (now sheet) ⌝ }
+{
+    let at = 8 + 10 * (n as usize);
+    let tasks = &sheet[8..];
+    let cores = &sheet[at..];
+    print(b" cores");
+    print_cores(tasks, n);
+    print(b" factors");
+    print_factors(tasks, n);
+    print_all_figures(cores, c);
+}
+
+// Card N: what the planner makes with limit 2 and start 1.
+fn card_n(jobs: &[u8]) {
+    let mut out = [0u8; 712];
+    print(b"N");
+    let planned = planner::plan(jobs, 2, 1, &mut out);
+    match planned {
+        Planned::Refused { word, place } => print_refused(word, place),
+        Planned::Written {
+            tasks,
+            cores,
+            length: _,
+        } => print_sheet(&out, tasks, cores),
+    }
+    print(b"\n");
+}
+
 // The listing of a sheet.
 fn print_listing(sheet: &[u8]) {
     let mut text = [0u8; 8192];
@@ -279,6 +340,8 @@ fn main() {
     cards_i_to_k();
     card_l(&jobs_l());
     card_m();
+    card_n(&jobs_n());
+    check_card(b"O", &unchained());
     print_listing(&listed(6, 4));
     print_listing(&listed(7, 4));
 }
