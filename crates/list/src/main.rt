@@ -1,4 +1,4 @@
-// Reads one sheet from standard input and prints its listing. What goes wrong is said on standard error, and then nothing is printed.
+// Reads one sheet from standard input and prints its listing. What goes wrong is said in one line on standard error.
 use input::Input;
 use listing::Listed;
 
