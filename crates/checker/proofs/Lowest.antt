@@ -4,13 +4,13 @@ use Prim.Native.Nat.{ℕ, zero, suc, _+_, _*_, _<_}
 use mathlib.Core.Path.{_≡_, refl, sym, ap, _∙_}
 use mathlib.Core.Logic.{_↔_}
 use mathlib.Core.Bool.{Bool, true, false, cond, true≢false}
-use mathlib.Core.Option.{Option, none, some, Option·map, Option·none-ne-some, Option·some-injective}
+use mathlib.Core.Option.{Option, none, some, Option·map, Option·none-ne-some}
 use mathlib.Core.List.{List, [], _∷_, _++_, map}
 use native.Mathlib.Omega.{arith}
 use native.Mathlib.Nat.{add-assoc}
-use lib.ListN.{getD, drop}
+use lib.ListN.{drop}
 use lib.Seq.{getD-drop}
-use Rattle.sheet.specs.Table.{Row, Refused, _at_, scan, FirstBroken}
+use Rattle.sheet.specs.Table.{Refused, _at_, scan, FirstBroken}
 use Rattle.sheet.specs.Records.{taskCount, coreCount}
 use Rattle.sheet.proofs.Exactly.{scan-exactly}
 use Rattle.fit.specs.Lists.{find, orElse, Each, EachPair}

@@ -1,14 +1,15 @@
 -- A core keeps rules 12, 13 and 14 exactly when its tasks are an accelerated simply periodic set that rises in priority order.
 -- Assumes nothing.
 use Prim.Native.Nat.{ℕ, _+_, _*_, _/_, _≤_, _<_}
-use mathlib.Core.Path.{_≡_, refl, sym, ap, _∙_}
+use mathlib.Core.Path.{_≡_, refl, sym, _∙_}
 use mathlib.Core.Logic.{_↔_}
+use mathlib.Core.Bool.{true}
 use mathlib.Core.Option.{some}
 use mathlib.Core.List.{List, [], _∷_}
 use native.Mathlib.Nat.{mul-one, one-mul, mul-zero, zero-mul, mul-assoc, mul-comm, mul-right-comm, mul-mul-mul-comm, mul-div-right, add-mul, mul-pos, mul-le-mul-left, mul-le-mul-right, le-of-mul-le-mul-left, le-of-mul-le-mul-right, eq-of-mul-eq-mul-left, eq-of-mul-eq-mul-right, lt-of-mul-lt-mul-left}
 use native.Mathlib.Omega.{arith}
 use Rattle.fit.specs.Lists.{at, sum, Each, EachPair}
-use Rattle.fit.specs.Fits.{chainBreak, Multiple, Multiples, lastFactor, load, exactLoad, fullLoad}
+use Rattle.fit.specs.Fits.{stretched, overloaded, within, chainBreak, Multiple, Multiples, lastFactor, load, exactLoad, fullLoad}
 use Rattle.fit.specs.Periodic.{Fraction, wholeNumber, AtMost, Times, WholeRatio, plus, total, accelerated, utilisation, AcceleratedSet, Rising}
 use Rattle.fit.proofs.Lists.{each-of, each-all, pairs-of, pairs-both}
 use Rattle.fit.proofs.Levels.{multiples-pairs, multiples-last, last-positive}
@@ -135,3 +136,9 @@ falling-set = (
   },
   refl,
 )
+
+-- Nothing is rounded. With pivot 11, divisor 2 and factor 1 the accelerated period, 11 / 2, is above a period of 5, though its whole part
+-- is not. Two tasks of budget 1001 on a period of 2001 are above one, though in whole thousandths each is 500.
+pub never-rounded : (stretched 11 2 5 1 ≡ true) × (within 11 2 1 ≡ 5) × (overloaded (λ i. 1001) (λ i. 1) 2001 1 (0 ∷ 1 ∷ []) ≡ true) × (1000 * 1001 / 2001 ≡ 500)
+unfolding stretched within overloaded load lastFactor sum
+never-rounded = (refl, refl, refl, refl)
