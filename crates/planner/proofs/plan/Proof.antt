@@ -6,9 +6,9 @@ use Rattle.planner.proofs.plan.Tie as tie
 use Rattle.planner.proofs.plan.Reads as reads
 use Rattle.planner.proofs.plan.Lts as lts
 use Rattle.planner.proofs.check_call.Reads as check-call-reads
-use Rattle.planner.proofs.fit_list.Reads as fit-list-reads
-use Rattle.planner.proofs.tasks_by.Reads as tasks-by-reads
-use Rattle.planner.proofs.write_sheet.Reads as write-sheet-reads
+use Rattle.planner.proofs.walker.fit_list.Reads as fit-list-reads
+use Rattle.planner.proofs.sets.tasks_by.Reads as tasks-by-reads
+use Rattle.planner.proofs.writer.write_sheet.Reads as write-sheet-reads
 
 check-call-requires : tie.Need-check-call-requires
 check-call-requires c κs = search needs
