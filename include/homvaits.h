@@ -103,7 +103,7 @@ typedef struct homvaits_listed {
 
 /* Checks a sheet. Accepted: it is a sheet and every core fits; the answer has its counts.
  *
- * Refusals, each rule over the whole sheet before the next, tasks by number and then cores by number:
+ * Refusals, in this order; each rule is looked at in all of the sheet before the next one:
  *   1 STUB, 2 MARK, 3 VERSION, 4 COUNT, 5 LENGTH   place 0: these bytes are no sheet of version 1
  *   6 SPARE                                        the offset of the first spare byte that is not zero
  *   7 PERIOD, 8 BUDGET, 9 CORE                     the task whose record is out of range

@@ -82,6 +82,8 @@ for jobs in examples/*.jobs; do
 done
 try 'run-example by itself' 0 "$(cat tests/programs/full-core.out)\n" "$(works_on "$PWD/examples/full-core.jobs")" ./run-example
 try 'run-example in another folder' 0 "$(cat tests/programs/full-core.out)\n" "$(works_on full-core.jobs)" sh -c 'cd examples && ../run-example full-core.jobs 1 0'
+try 'run-example to a full device' 1 '' "$(works_on examples/full-core.jobs)run-example: the listing cannot be written to standard output\n" \
+    sh -c './run-example examples/full-core.jobs > /dev/full'
 # The ring begins with period 64, task 4, on line 6.
 try 'run-example without a core' 1 '' "$(works_on examples/ten-tasks.jobs)refused 15 place 4 line 6: no core takes this job\n" \
     ./run-example examples/ten-tasks.jobs 0

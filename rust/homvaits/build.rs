@@ -11,7 +11,8 @@ fn main() {
 }
 
 fn link() -> Result<(), String> {
-    let lib = match env::var_os("HOMVAITS_LIB") {
+    let named = env::var_os("HOMVAITS_LIB").filter(|path| !path.is_empty());
+    let lib = match named {
         Some(path) => PathBuf::from(path),
         None => Path::new(env!("CARGO_MANIFEST_DIR")).join("../../target/staticlib/libcapi.a"),
     };

@@ -162,7 +162,8 @@ linesB =
 abbrev pub linesC : List String
 linesC = "refused 14 place 64" ∷ []
 
--- The cards. A to F are verdicts, G to I plans, J and K runs on the sheet of I, L a run on the bench, M a ring order; then the listings.
+-- The cards. A to F and O are verdicts, G to I and N plans, J and K runs on the sheet of I, L a run on the bench, M a ring order; then
+-- the listings.
 pub record Cards : Type 0 where
   pub A : verdict (header 0 0) ≡ checker.accepted 0 0
   pub B : verdict (listed 6 4) ≡ checker.accepted 3 1

@@ -1,5 +1,5 @@
--- A sheet is accepted exactly when its figures are in range and every core's tasks are an accelerated simply periodic set that rises in
--- priority order.
+-- A sheet is accepted exactly when it has its form, its figures are in range, and every core's tasks are an accelerated simply periodic
+-- set that rises in priority order.
 -- Assumes nothing.
 use Prim.Native.Nat.{ℕ, _*_, _≤_, _<_}
 use mathlib.Core.Path.{_≡_, refl}

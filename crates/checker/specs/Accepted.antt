@@ -76,7 +76,8 @@ pub record Schedulable (p e M : ℕ → ℕ) (Q D : ℕ) (l : List ℕ) : Type 0
   pub level : (xs : List ℕ) (i : ℕ) (ys : List ℕ) → l ≡ xs ++ i ∷ ys → load e M D (M i) (xs ++ i ∷ []) ≤ Q * M i
   pub bounds : Each (λ i. (e i ≤ within Q D (M i)) × (within Q D (M i) ≤ p i)) l
 
--- The same for core k of a sheet that is accepted with n tasks and c cores, and the sheet's size: all that a dispatcher uses of the checker.
+-- The same for core k of a sheet that is accepted with n tasks and c cores, and the sheet's size: all that a dispatcher uses of the
+-- checker.
 pub record CoreOf (s : List ℕ) (n c k : ℕ) : Type 0 where
   pub tasks : n ≡ taskCount s
   pub cores : c ≡ coreCount s

@@ -11,8 +11,8 @@ use Rattle.dispatcher.specs.declared.Core.{Core}
 use Rattle.dispatcher.specs.declared.Step.{Step}
 use Rattle.dispatcher.specs.Operations.{answerOf, ask, step}
 
--- What holds of the log of calls cs from state `start` on core k of sheet s: the on-time rule with w and e of the sheet, so also with p and e,
--- and no call is refused as Foreign (21). Beside it, e ≤ w ≤ p for every task of the core.
+-- What holds of the log of calls cs from state `start` on core k of sheet s: the on-time rule with w and e of the sheet, so also with p
+-- and e, and no call is refused as Foreign (21). Beside it, e ≤ w ≤ p for every task of the core.
 pub record Kept (s : List ℕ) (k : ℕ) (start : Core) (cs : List Call) : Type 0 where
   pub rule : OnTime (withinOn (figures s) k) (figures s .budget) (log ask step start cs)
   pub by-period : OnTime (figures s .period) (figures s .budget) (log ask step start cs)

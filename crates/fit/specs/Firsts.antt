@@ -19,7 +19,8 @@ pub record FirstAnswer (g : ℕ → Option ℕ) (n x : ℕ) : Type 0 where
   pub answers : g number ≡ some x
   pub first : (y : ℕ) → y < number → g y ≡ none
 
--- i is the first task of a list whose factor is no multiple of the factor before it, which is d before the first: the tasks before it are a chain
+-- i is the first task of a list whose factor is no multiple of the factor before it, which is d before the first: the tasks before it are
+-- a chain
 pub record FirstBreak (M : ℕ → ℕ) (d : ℕ) (l : List ℕ) (i : ℕ) : Type 0 where
   pub before : List ℕ
   pub after : List ℕ

@@ -21,7 +21,8 @@ pub record Demand (B w : ℕ → ℕ) (s : List Task) : Type 0 where
   pub room : (k : ℕ) → k < length s → B k + sumOf (rate (w (nth s k .number))) (take (suc k) s) ≤ w (nth s k .number)
   pub within : (k : ℕ) → k < length s → w (nth s k .number) ≤ nth s k .period
 
--- From the load of a sheet: where k t bounds the releases of t in w = Q * M / D ticks, and the budgets of so many, with B, fit in Q * M / D, the level has room.
+-- From the load of a sheet: where k t bounds the releases of t in w = Q * M / D ticks, and the budgets of so many, with B, fit in Q * M /
+-- D, the level has room.
 pub room-of-load : (B Q D M : ℕ) (k : Task → ℕ) (s : List Task) → 0 < D → Each (λ t. (Q * M / D - 1) / t .period + 1 ≤ k t) s → (B + sumOf (λ t. t .budget * k t) s) * D ≤ Q * M → B + sumOf (rate (Q * M / D)) s ≤ Q * M / D
 unfolding rate
 room-of-load B Q D M k s hD most load = omega (arith, sum-le (rate (Q * M / D)) (λ t. t .budget * k t) s (each-of s (λ t h. mul-le-mul-left (t .budget) h) most), le-div-iff-mul-le {k = D} {x = B + sumOf (λ t. t .budget * k t) s} {y = Q * M} hD .1 load)

@@ -3,14 +3,14 @@
 use Prim.Native.Nat.{ℕ, suc}
 use mathlib.Core.Path.{_≡_, refl}
 use mathlib.Core.Logic.{inl, inr}
-use mathlib.Core.List.{List}
+use mathlib.Core.List.{List, [], _∷_}
 use native.Mathlib.Omega.{arith}
 use borrow.Author.Tests.{ltb-true, ltb-false}
 use Rattle.fit.specs.Lists.{Each, EachPair}
 use Rattle.fit.proofs.Lists.{each-of}
 use Rattle.timing.specs.declared.Task.{Task}
 use Rattle.timing.specs.Tasks.{pending, used}
-use Rattle.timing.specs.Calls.{tick, Answer, served, idle, answer, tickAnswer}
+use Rattle.timing.specs.Calls.{tick, Answer, served, idle, answer, tickAnswer, ofFirst}
 use Rattle.timing.specs.Form.{Above, Form}
 use Rattle.timing.specs.Serving.{nth, Foremost}
 use Rattle.timing.proofs.Steps.{Changed, nowhere, here, later, changed-pending}
@@ -38,3 +38,8 @@ none-pending (later {t} p c) e = (omega (arith, ltb-false 0 (t .left) p), none-p
 pub tick-idle : (s : List Task) → answer tick s ≡ idle → Each (λ t. t .left ≡ 0) s
 unfolding answer
 tick-idle s e = none-pending (changed-pending used s) e
+
+-- a task that may be released and still has a tick left is served: the tick looks at what is pending, not at ages
+pub serves-pending : answer tick (record { period = 5; budget = 1; age = 5; left = 1; number = 0 } ∷ []) ≡ served 0
+unfolding answer ofFirst pending
+serves-pending = refl

@@ -26,7 +26,8 @@ work s = sumOf (λ t. t .left) s
 abbrev pub Young : ℕ → Task → Type 0
 Young b t = 0 < t .left → t .age ≤ b
 
--- A level s that became busy b ticks ago. w is its bound, B a blocking term and r what is still held against it from below (both 0 where every tick goes to the first pending task).
+-- A level s that became busy b ticks ago. w is its bound, B a blocking term and r what is still held against it from below (both 0 where
+-- every tick goes to the first pending task).
 pub record Busy (w B r b : ℕ) (s : List Task) : Type 0 where
   -- the ticks since then and the work left come from releases since then, or from blocking
   pub paid : b + work s + r ≤ B + sumOf (due b) s

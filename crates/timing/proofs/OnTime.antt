@@ -145,6 +145,7 @@ module _ (B w e : ℕ → ℕ) where
     levels = λ k lt. level-idle _ (B k) 0 (take (suc k) s) (each-take _ (suc k) s h);
   }
 
--- The on-time theorem. From a fresh state in form whose figures pass the demand test, every log obeys the on-time rule with the bounds w and the budgets e.
+-- The on-time theorem. From a fresh state in form whose figures pass the demand test, every log obeys the on-time rule with the bounds w
+-- and the budgets e.
 pub on-time : (B w e : ℕ → ℕ) (s : List Task) → Form s → Each Fresh s → Demand B w s → Each (λ t. e (t .number) ≡ t .budget) s → (cs : List Call) → OnTime w e (log answer next s cs)
 on-time B w e s f h d b cs = machine-on-time answer next (Good B w e) nth w e (list-machine B w e) cs s (good-idle B w e s f (each-of s (λ t x. x .left) h) d b)

@@ -1,5 +1,5 @@
--- The demand of one task, as plain arithmetic: what it may ask for in a window of w ticks, and what it may have asked for since a level became busy.
--- Assumes nothing.
+-- The demand of one task, as plain arithmetic: what it may ask for in a window of w ticks, and what it may have asked for since a level
+-- became busy. Assumes nothing.
 use Prim.Native.Nat.{ℕ, zero, suc, _+_, _*_, _-_, _/_, _≤_, _<_}
 use mathlib.Core.Path.{_≡_, ap}
 use mathlib.Core.List.{List, [], _∷_}
@@ -17,11 +17,13 @@ sumOf f (t ∷ s) = f t + sumOf f s
 unfoldable pub rate : ℕ → Task → ℕ
 rate w t = t .budget * ((w - 1) / t .period + 1)
 
--- the most that a task of this age can have been given by its releases of the last b ticks: the latest is as old as its age, each one before it a period older
+-- the most that a task of this age can have been given by its releases of the last b ticks: the latest is as old as its age, each one
+-- before it a period older
 unfoldable pub due : ℕ → Task → ℕ
 due b t = t .budget * ((b + (t .period - t .age)) / t .period)
 
--- From the figures of a sheet: where the accelerated period Q * Mj / D is at most p, a window of Q * Mi / D ticks holds at most Mi / Mj releases.
+-- From the figures of a sheet: where the accelerated period Q * Mj / D is at most p, a window of Q * Mi / D ticks holds at most Mi / Mj
+-- releases.
 pub rate-le : (Q D Mi Mj p k : ℕ) → 0 < D → 0 < p → Q * Mj ≤ p * D → Mi ≡ Mj * k → 1 ≤ Q * Mi / D → (Q * Mi / D - 1) / p + 1 ≤ k
 rate-le Q D Mi Mj p k hD hp h e h1 =
     let whole : Q * Mi / D * D ≤ k * p * D = omega (arith, div-mul-le-self (Q * Mi) D, ap (λ (m : ℕ). Q * m) e, mul-le-mul-right k h) in

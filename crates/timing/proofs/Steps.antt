@@ -135,7 +135,8 @@ module _ {q : Task → Bool} {g : Task → Task} {f : Task → Answer} {d : Answ
   pub each-changed : (P : Task → Type 0) → ((t : Task) → P t → P (g t)) → {a : Answer} {s s′ : List Task} → Changed q g f d s s′ a → Each P s → Each P s′
   each-changed P k c h = each-hit P (λ t x y. k t) c h
 
-  -- two sums: where the change adds no more to the figure u of a task than to its figure v, it adds no more to the sum of u than to that of v
+  -- two sums: where the change adds no more to the figure u of a task than to its figure v, it adds no more to the sum of u than to that
+  -- of v
   pub sum-changed : (u v : Task → ℕ) {a : Answer} {s s′ : List Task} → Changed q g f d s s′ a → Each (λ t. u (g t) + v t ≤ u t + v (g t)) s → sumOf u s′ + sumOf v s ≤ sumOf u s + sumOf v s′
   unfolding Each sumOf
   sum-changed u v nowhere h = omega arith

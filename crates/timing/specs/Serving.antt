@@ -46,7 +46,8 @@ pub record AgeCounts (l : List Entry) (s : List Task) : Type 0 where
 
 -- the ticks left in a state s after a log l that began with a fresh state
 pub record LeftCounts (l : List Entry) (s : List Task) : Type 0 where
-  -- after the last accepted release of j, with no accepted finish of j since: with the ticks answered with j since then they make the budget
+  -- after the last accepted release of j, with no accepted finish of j since: with the ticks answered with j since then they make the
+  -- budget
   pub since : (before xs : List Entry) (j : ℕ) → l ≡ before ++ entry (release j) accepted ∷ xs → count (isRelease j) xs ≡ 0 → count (isFinish j) xs ≡ 0 → Each (λ t. t .number ≡ j → t .left + count (isRun j) xs ≡ t .budget) s
   -- after an accepted finish of j, with no accepted release of j since: 0
   pub ended : (before xs : List Entry) (j : ℕ) → l ≡ before ++ entry (finish j) accepted ∷ xs → count (isRelease j) xs ≡ 0 → Each (λ t. t .number ≡ j → t .left ≡ 0) s

@@ -1,4 +1,3 @@
-use borrow.Author.Needs.{needs}
 use Rattle.jobtext.proofs.Texts.{fault-none, fault-large, fault-full}
 use Rattle.jobtext.proofs.find_fault.Statement.{statement}
 use Rattle.jobtext.proofs.find_fault.Tie as tie
