@@ -136,8 +136,8 @@ try 'plan of card I' 0 'TSH\1\0\2\1\0\5\0\1\0\0\0\1\0\0\0\11\0\7\0\0\0\2\0\0\0\1
 try 'plan of a comment' 0 'TSH\1\0\0\0\0' '' $plan < <(echo '# no job')
 try 'plan of nothing' 0 'TSH\1\0\0\0\0' '' $plan 0 0 < /dev/null
 
-# plan: refusals. In the ring of 5 and 9 the 9, task 1, stands first; in the example it is on line 4.
-try 'plan without a core' 0 '' 'refused 15 place 1 line 4: no core takes this job\n' $plan 0 < examples/full-core.jobs
+# plan: refusals. In the ring of 5 and 9 the 9, task 1, stands first; in the example it is on line 5.
+try 'plan without a core' 0 '' 'refused 15 place 1 line 5: no core takes this job\n' $plan 0 < examples/full-core.jobs
 try 'plan of card H' 0 '' 'refused 15 place 1 line 2: no core takes this job\n' $plan 1 0 < <(printf '10 4\n15 9\n')
 try 'plan with a wrong period' 0 '' 'refused 7 place 1 line 2: the period is not 1 to 60000\n' $plan < <(printf '5 6\n60001 1\n')
 try 'plan with a wrong budget' 0 '' 'refused 8 place 1 line 2: the budget is not 1 to the period\n' $plan < <(printf '5 5\n9 10\n')
