@@ -18,6 +18,11 @@ pub past-long : (s : List ℕ) (i : ℕ) → length s ≤ i → 0 ≡ long s i
 unfolding long
 past-long s i h = omega (arith, past-word s i h, past-word s (i + 2) (omega arith))
 
+-- two bytes, low byte first
+pub word-bytes : (s : List ℕ) (i r : ℕ) → r ≡ getD s i 0 + 256 * getD s (i + 1) 0 → r ≡ word s i
+unfolding word
+word-bytes s i r e = e
+
 -- of a number's two bytes only the first is there
 pub word-last : (s : List ℕ) (i r : ℕ) → length s - i < 2 → r ≡ getD s i 0 + 256 * 0 → r ≡ word s i
 unfolding word

@@ -1,6 +1,5 @@
 use borrow.Author.Needs.{needs}
-use Rattle.sheet.specs.Numbers.{word}
-use Rattle.sheet.proofs.Past.{past-word, word-last}
+use Rattle.sheet.proofs.Past.{past-word, word-bytes, word-last}
 use Rattle.sheet.proofs.read_word.Statement.{statement}
 use Rattle.sheet.proofs.read_word.Tie as tie
 use Rattle.sheet.proofs.read_word.Reads as reads
@@ -23,8 +22,7 @@ join8-requires : tie.Need-join8-requires
 join8-requires c κs = search needs
 
 returns : tie.Need-returns
-unfolding word
-returns c = cc
+returns c = search (word-bytes, needs)
 
 shared-slice-read-join8-3 : tie.Need-shared-slice-read-join8-3
 shared-slice-read-join8-3 c = search needs

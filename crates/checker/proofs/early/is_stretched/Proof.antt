@@ -1,6 +1,5 @@
 use borrow.Author.Needs.{needs}
-use Rattle.fit.specs.Fits.{stretched}
-use Rattle.checker.specs.Tests.{stretchedAt}
+use Rattle.checker.proofs.Answers.{stretch-answer}
 use Rattle.checker.proofs.early.is_stretched.Statement.{statement}
 use Rattle.checker.proofs.early.is_stretched.Tie as tie
 use Rattle.checker.proofs.early.is_stretched.Reads as reads
@@ -34,8 +33,7 @@ product-requires-2 : tie.Need-product-requires-2
 product-requires-2 c κs = search needs
 
 returns : tie.Need-returns
-unfolding stretchedAt stretched
-returns c = cc
+returns c = search (stretch-answer, needs)
 
 pub is-stretched-spec : {M : Type 1} → statement M
 is-stretched-spec =

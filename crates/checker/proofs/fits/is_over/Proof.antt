@@ -1,5 +1,5 @@
 use borrow.Author.Needs.{needs}
-use Rattle.checker.specs.Steps.{overInRange}
+use Rattle.checker.proofs.Answers.{over-answer}
 use Rattle.checker.proofs.fits.is_over.Statement.{statement}
 use Rattle.checker.proofs.fits.is_over.Tie as tie
 use Rattle.checker.proofs.fits.is_over.Reads as reads
@@ -22,8 +22,7 @@ product-requires : tie.Need-product-requires
 product-requires c κs = search needs
 
 returns : tie.Need-returns
-unfolding overInRange
-returns c = cc
+returns c = search (over-answer, needs)
 
 pub is-over-spec : {M : Type 1} → statement M
 is-over-spec =
