@@ -1,6 +1,6 @@
--- The bench cards A to O, small inputs each with what it must give, and the listings of B and C, as one table about the definitions
--- (docs/SHEET.md, sections 4 to 8). N and O are our own, worked out by hand from sections 5 and 4.
-use Prim.Native.Nat.{ℕ}
+-- The bench cards A to P, small inputs each with what it must give, and the listings of B, C and P, as one table about the definitions
+-- (docs/SHEET.md, sections 4 to 8). N, O and P are our own, worked out by hand from sections 5, 4 and 8.
+use Prim.Native.Nat.{ℕ, _/_, _%_}
 use Prim.Native.String.{String}
 use mathlib.Core.Path.{_≡_}
 use mathlib.Core.List.{List, [], _∷_, _++_, map}
@@ -43,6 +43,24 @@ listed e M = header 3 1 ++ (task 3 1 1 ++ (task 7 1 2 ++ (task 13 e M ++ core 3 
 -- two tasks of which the second's factor is no multiple of the first's
 abbrev pub unchained : List ℕ
 unchained = header 2 1 ++ (task 5 1 2 ++ (task 6 1 1 ++ core 2 1))
+
+-- records of a task on core 0 and of a core, whose period, budget and pivot may have two bytes
+abbrev pub two : ℕ → List ℕ
+two x = x % 256 ∷ x / 256 ∷ []
+
+abbrev pub longTask : (p e M : ℕ) → List ℕ
+longTask p e M = two p ++ (two e ++ (0 ∷ 0 ∷ M ∷ 0 ∷ 0 ∷ 0 ∷ []))
+
+abbrev pub longCore : (Q D : ℕ) → List ℕ
+longCore Q D = two Q ++ (0 ∷ 0 ∷ D ∷ 0 ∷ 0 ∷ 0 ∷ [])
+
+-- a core with the load 1999/2000, which is above 999 thousandths and below one
+abbrev pub nearlyFull : List ℕ
+nearlyFull = header 1 1 ++ (longTask 2000 1999 1 ++ longCore 2000 1)
+
+-- the same with a job of three quarters of a thousandth more: the load is 4001/4000
+abbrev pub overfull : List ℕ
+overfull = header 2 1 ++ (longTask 2000 1999 1 ++ (longTask 4000 3 2 ++ longCore 2000 1))
 
 -- seven bytes
 abbrev pub seven : List ℕ
@@ -162,7 +180,15 @@ linesB =
 abbrev pub linesC : List String
 linesC = "refused 14 place 64" ∷ []
 
--- The cards. A to F and O are verdicts, G to I and N plans, J and K runs on the sheet of I, L a run on the bench, M a ring order; then
+-- the listing of the sheet to which card P adds a job
+abbrev pub linesP : List String
+linesP =
+    "TSH 1 tasks 1 cores 1"
+    ∷ "task 0 core 0 period 2000 budget 1999 factor 1 within 2000"
+    ∷ "core 0 pivot 2000 divisor 1 load 1000"
+    ∷ []
+
+-- The cards. A to F, O and P are verdicts, G to I and N plans, J and K runs on the sheet of I, L a run on the bench, M a ring order; then
 -- the listings.
 pub record Cards : Type 0 where
   pub A : verdict (header 0 0) ≡ checker.accepted 0 0
@@ -188,5 +214,7 @@ pub record Cards : Type 0 where
       × (sheetFor jobsN (fitOf jobsN 2 1) ≡ header 3 2 ++ (taskOn 0 3 1 1 ++ (taskOn 1 4 1 1 ++ (taskOn 0 5 3 2 ++ (core 5 2 ++ core 4 1)))))
       × (sheetFor jobsN (fitOf jobsN 2 0) ≡ header 3 2 ++ (taskOn 1 3 1 1 ++ (taskOn 0 4 1 1 ++ (taskOn 0 5 3 1 ++ (core 4 1 ++ core 3 1)))))
   pub O : verdict unchained ≡ checker.refused 13 1
+  pub P : verdict overfull ≡ checker.refused 14 64
   pub listingB : listingOf (listed 6 4) ≡ text linesB
   pub listingC : listingOf (listed 7 4) ≡ text linesC
+  pub listingP : listingOf nearlyFull ≡ text linesP

@@ -1,10 +1,10 @@
-// Runs the cards of specs/Cards.antt through the code and prints one line for each, then the listing of the sheets of B and C.
+// Runs the cards of specs/Cards.antt through the code and prints one line for each, then the listing of the sheets of B, C and P.
 ghost use Prim.Native.Nat.{_+_, _*_, _≤_};
 ghost use mathlib.Core.Path.{_≡_};
 ghost use lib.ListN.{length};
 ghost use Rattle.io.specs.Counts.{Counts};
 ghost use Rattle.fit.specs.Fits.{within as withinOf};
-ghost use Rattle.cards.specs.Cards.{header, listed as listedSheet, seven, jobsG, jobsH, jobsI, jobsL, jobsN, unchained as unchainedSheet};
+ghost use Rattle.cards.specs.Cards.{header, listed as listedSheet, seven, jobsG, jobsH, jobsI, jobsL, jobsN, unchained as unchainedSheet, nearlyFull, overfull as overfullSheet};
 use checker::Verdict;
 use dispatcher::Answer;
 use dispatcher::Core;
@@ -92,7 +92,19 @@ fn unchained() -> [u8; 36]
     *b"TSH\x01\x00\x02\x01\x00\x05\x00\x01\x00\x00\x00\x02\x00\x00\x00\x06\x00\x01\x00\x00\x00\x01\x00\x00\x00\x02\x00\x00\x00\x01\x00\x00\x00"
 }
 
-// Cards A to F, and O: what the checker answers.
+fn nearly_full() -> [u8; 26]
+    ensures { λ r. ⌜ r ≡ nearlyFull ⌝ }
+{
+    *b"TSH\x01\x00\x01\x01\x00\xd0\x07\xcf\x07\x00\x00\x01\x00\x00\x00\xd0\x07\x00\x00\x01\x00\x00\x00"
+}
+
+fn overfull() -> [u8; 36]
+    ensures { λ r. ⌜ r ≡ overfullSheet ⌝ }
+{
+    *b"TSH\x01\x00\x02\x01\x00\xd0\x07\xcf\x07\x00\x00\x01\x00\x00\x00\xa0\x0f\x03\x00\x00\x00\x02\x00\x00\x00\xd0\x07\x00\x00\x01\x00\x00\x00"
+}
+
+// Cards A to F, O and P: what the checker answers.
 fn check_card(name: &[u8], sheet: &[u8]) {
     print(name);
     let verdict = checker::check(sheet);
@@ -342,6 +354,8 @@ fn main() {
     card_m();
     card_n(&jobs_n());
     check_card(b"O", &unchained());
+    check_card(b"P", &overfull());
     print_listing(&listed(6, 4));
     print_listing(&listed(7, 4));
+    print_listing(&nearly_full());
 }

@@ -9,9 +9,10 @@ use lib.ListN.{length, take, drop, length-drop}
 use lib.Seq.{split-at, getD-take, getD-drop, length-take-le}
 use Rattle.fit.specs.Lists.{at}
 use Rattle.fit.specs.Fits.{Multiple}
-use Rattle.figures.specs.Constructions.{ceiling, down, downs, up, ups, dct}
+use Rattle.fit.specs.Rounding.{ceiling}
+use Rattle.fit.proofs.Ceiling.{ceiling-reaches, ceiling-before, ceiling-positive, ceiling-scale}
+use Rattle.figures.specs.Constructions.{down, downs, up, ups, dct}
 use Rattle.figures.specs.Meaning.{Rising, DctPeriods, Factors, Sound}
-use Rattle.figures.proofs.Ceiling.{ceiling-reaches, ceiling-before, ceiling-positive, ceiling-scale}
 use Rattle.figures.proofs.Sound.{rising-at}
 
 -- one step down: the accelerated period q / d of a task with period p

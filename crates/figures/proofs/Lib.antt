@@ -1,6 +1,5 @@
 pub mod Lists
 pub mod Powers
-pub mod Ceiling
 pub mod Sound
 pub mod SrLaws
 pub mod DctLaws

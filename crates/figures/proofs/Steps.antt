@@ -6,8 +6,9 @@ use native.Mathlib.Nat.{mul-assoc, one-mul, mul-le-mul, mul-le-mul-right, mul-po
 use native.Mathlib.Omega.{arith}
 use mir.Syntax.{w64}
 use mir.Val.{Fits}
-use Rattle.figures.specs.Constructions.{ceiling, down}
-use Rattle.figures.proofs.Ceiling.{ceiling-least}
+use Rattle.fit.specs.Rounding.{ceiling}
+use Rattle.fit.proofs.Ceiling.{ceiling-least}
+use Rattle.figures.specs.Constructions.{down}
 
 -- a product of a period and a divisor or factor
 product : (x y : ℕ) → x ≤ 120000 → y ≤ 60000 → x * y ≤ 7200000000

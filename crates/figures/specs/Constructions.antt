@@ -1,11 +1,12 @@
 -- Sr and DCT (docs/SHEET.md, section 5). A construction takes the periods of a core's tasks in priority order and the place of its pivot.
-use Prim.Native.Nat.{ℕ, zero, suc, _+_, _-_, _*_, _/_, _^_}
+use Prim.Native.Nat.{ℕ, zero, suc, _*_, _/_, _^_}
 use mathlib.Core.Path.{_≡_}
 use mathlib.Core.Bool.{cond}
 use mathlib.Core.List.{List, [], _∷_, _++_, map}
 use lib.ListN.{take, drop}
 use lib.Dec.{leb}
 use Rattle.fit.specs.Lists.{at}
+use Rattle.fit.specs.Rounding.{ceiling}
 
 -- The figures of a core: the accelerated period of the task at place i is the fraction Q × M / D, where M is its factor.
 pub record Acceleration : Type 0 where
@@ -46,10 +47,6 @@ sr b ps i =
     let q = at ps i in
     let d = leastPower b q (at ps 0) in
     record { Q = q; D = d; factors = map (λ p. largestPower b q (p * d)) ps }
-
--- a / b rounded up
-unfoldable pub ceiling : ℕ → ℕ → ℕ
-ceiling a b = (a + b - 1) / b
 
 -- DCT, one step to a shorter period p: from the accelerated period x of the task after it, x divided by the least whole number that is not
 -- below x / p. An accelerated period is Q / d, and this gives d from that of the task after it.

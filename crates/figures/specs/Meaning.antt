@@ -4,8 +4,9 @@ use mathlib.Core.Path.{_≡_}
 use mathlib.Core.List.{List, [], _∷_}
 use lib.ListN.{length}
 use Rattle.fit.specs.Lists.{at}
+use Rattle.fit.specs.Rounding.{ceiling}
 use Rattle.fit.specs.Fits.{Multiple}
-use Rattle.figures.specs.Constructions.{Acceleration, Power, ceiling}
+use Rattle.figures.specs.Constructions.{Acceleration, Power}
 
 -- periods in priority order: none below the one before it, which is a before the first, and none above 60,000
 unfoldable pub Rising : ℕ → List ℕ → Type 0

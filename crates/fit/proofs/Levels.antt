@@ -5,12 +5,12 @@ use mathlib.Core.Path.{_≡_, refl, sym, ap, subst, _∙_}
 use mathlib.Core.Bool.{Bool, true, false, cond}
 use mathlib.Core.Option.{none, some, Option·some-ne-none}
 use mathlib.Core.List.{List, [], _∷_, _++_}
-use native.Mathlib.Nat.{mul-one, mul-zero, zero-mul, mul-assoc, mul-comm, mul-div-right, div-self, mul-mod-right, div-add-mod, add-mul, le-of-mul-le-mul-right, lt-of-mul-lt-mul-left, le-div-iff-mul-le, div-le-of-le-mul}
+use native.Mathlib.Nat.{mul-one, mul-zero, zero-mul, mul-assoc, mul-comm, mul-pos, mul-div-right, div-self, mul-mod-right, div-add-mod, add-mul, le-of-mul-le-mul-right, lt-of-mul-lt-mul-left, le-div-iff-mul-le, div-le-of-le-mul}
 use native.Mathlib.Omega.{arith}
 use borrow.Author.Tests.{eqb-true, eq-eqb}
 use lib.Dec.{eqb}
 use lib.Seq.{append-snoc}
-use Rattle.fit.specs.Lists.{sum, Each, EachPair}
+use Rattle.fit.specs.Lists.{sum, occurs, Each, EachPair}
 use Rattle.fit.specs.Fits.{chainBreak, Multiple, Multiples, lastFactor, load, within}
 use Rattle.fit.proofs.Lists.{each-of, each-append, each-halves, each-split, each-between, pairs-before, sum-append}
 
@@ -77,6 +77,16 @@ pub last-positive : (M : ℕ → ℕ) (d : ℕ) (l : List ℕ) → 0 < d → Eac
 unfolding lastFactor Each
 last-positive M d [] q h = q
 last-positive M d (i ∷ l) q h = last-positive M (M i) l (h .0) (h .1)
+
+-- a load is above 0 where there is a task, its budget and D are positive, and m is a positive multiple of all factors
+pub load-above : (e M : ℕ → ℕ) (D m x : ℕ) (l : List ℕ) → 1 ≤ occurs x l → 0 < D → 0 < m → Each (λ i. 0 < e i) l → Each (λ i. 0 < M i) l → Each (λ i. Multiple (M i) m) l → 0 < load e M D m l
+unfolding load sum occurs Each Multiple
+load-above e M D m x [] n d pos he hM h = absurd (omega arith)
+load-above e M D m x (i ∷ l) n d pos he hM h =
+    let (c, times) = h .0 in
+    let once : 0 < c = lt-of-mul-lt-mul-left (M i) (rw (mul-zero (M i), ← times) pos) in
+    let whole : 0 < m / M i = rw (times, mul-div-right c (hM .0)) once in
+    omega (arith, mul-pos (mul-pos (he .0) d) whole)
 
 -- c times as much, divided
 div-scale : (k m c : ℕ) → 0 < k → Multiple k m → m * c / k ≡ m / k * c

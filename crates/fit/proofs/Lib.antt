@@ -1,6 +1,7 @@
 pub mod Sorting
 pub mod Passes
 pub mod Lists
+pub mod Ceiling
 pub mod Priority
 pub mod Levels
 pub mod Finds

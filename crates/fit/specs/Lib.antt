@@ -1,4 +1,5 @@
 pub mod Lists
+pub mod Rounding
 pub mod Priority
 pub mod Ring
 pub mod Fits

@@ -3,7 +3,7 @@
 use Prim.Native.Nat.{ℕ, _*_, _/_, _≤_, _<_, min}
 use mathlib.Core.Path.{_≡_, ap, _∙_}
 use native.Mathlib.Omega.{arith}
-use native.Mathlib.Nat.{le-trans, mul-le-mul, mul-pos, div-le-of-le-mul, mul-le-mul-left, mul-comm}
+use native.Mathlib.Nat.{le-trans, mul-le-mul, mul-pos, mul-le-mul-left, mul-comm}
 use borrow.Author.Tests.{le-leb}
 use lib.ListN.{length, take}
 use mir.Syntax.{w32}
@@ -16,6 +16,7 @@ use Rattle.fit.specs.Priority.{order}
 use Rattle.fit.specs.Fits.{lastFactor, load, within}
 use Rattle.fit.specs.Answers.{Ordered, chainAnswer, chained, loadInRange}
 use Rattle.fit.proofs.Lists.{each-of}
+use Rattle.fit.proofs.Ceiling.{ceiling-least}
 use Rattle.fit.proofs.Priority.{order-members, order-count}
 use Rattle.fit.proofs.Levels.{multiples-chain, load-last, last-positive, within-period}
 use Rattle.fit.specs.Cores.{orderOn}
@@ -40,8 +41,9 @@ pub within-cast : (q m d x : ℕ) → x ≡ q * m → within q d m ≤ 60000 →
 within-cast q m d x e h = record { fits = omega (arith, within-found q m d x e) }
 
 -- a load that is at most one is at most 1000 thousandths
-pub thousand : (load full : ℕ) → load ≤ full → 1000 * load / full ≤ 1000
-thousand load full h = div-le-of-le-mul full (rw (mul-comm full 1000) (mul-le-mul-left 1000 h))
+pub thousand : (load full : ℕ) → 0 < full → load ≤ full → thousandths load full ≤ 1000
+unfolding thousandths
+thousand load full pos h = ceiling-least (1000 * load) full pos 1000 (rw (mul-comm full 1000) (mul-le-mul-left 1000 h))
 
 -- the last factor of a core's tasks is in range
 module _ (f : Figures) (k : ℕ) (g : Fitting f) where

@@ -1,17 +1,20 @@
 -- What the listing shows: decimal digits mean their number, within is the whole part of Q × M / D, and the load is the exact load in
--- thousandths rounded down.
+-- thousandths rounded up.
 -- Assumes nothing.
 use Prim.Native.Nat.{ℕ, _+_, _-_, _*_, _/_, _%_, _≤_, _<_}
 use mathlib.Core.Path.{_≡_, refl, _∙_}
 use mathlib.Core.List.{List, [], _∷_, _++_}
 use native.Mathlib.Nat.{div-mul-le-self, lt-mul-div-succ, mul-comm, mul-pos}
+use native.Mathlib.Decide.{decLt}
 use native.Mathlib.Omega.{arith}
 use lib.ListN.{getD, List·getD-append}
 use Rattle.sheet.specs.Records.{Figures}
 use Rattle.fit.specs.Lists.{Each}
-use Rattle.fit.specs.Fits.{within, load, lastFactor}
+use Rattle.fit.specs.Fits.{within, exactLoad, fullLoad}
 use Rattle.fit.proofs.Lists.{each-append, each-of}
-use Rattle.fit.proofs.Priority.{order-members}
+use Rattle.fit.proofs.Ceiling.{ceiling-reaches, ceiling-least, ceiling-whole, ceiling-positive}
+use Rattle.fit.proofs.Priority.{order-members, order-holds}
+use Rattle.fit.proofs.Levels.{multiples-last, load-above}
 use Rattle.fit.specs.Cores.{orderOn, withinOn}
 use Rattle.checker.specs.Accepted.{Fitting, LoadAtMostOne}
 use Rattle.listing.specs.Decimal.{decimal, valueFrom}
@@ -57,13 +60,46 @@ pub listed-within : (f : Figures) (k : ℕ) → Each (λ i. withinOn f (f .core 
 unfolding orderOn
 listed-within f k = each-of _ (λ i m. rw (m .1)) (order-members (f .period) (f .core) k (f .tasks))
 
--- The load shown of each core is its exact load, of which Q × L is the whole, in thousandths rounded down; it is at most 1000.
+-- The load that is shown of a core, in thousandths, and its exact load, which is a part of a full one.
 module _ (f : Figures) (k : ℕ) (g : Fitting f) (h : k < f .cores) where
-  pub load-shown : (loadOf f k * (f .pivot k * lastFactor (f .factor) 1 (orderOn f k)) ≤ 1000 * load (f .budget) (f .factor) (f .divisor k) (lastFactor (f .factor) 1 (orderOn f k)) (orderOn f k))
-      × (1000 * load (f .budget) (f .factor) (f .divisor k) (lastFactor (f .factor) 1 (orderOn f k)) (orderOn f k) < (loadOf f k + 1) * (f .pivot k * lastFactor (f .factor) 1 (orderOn f k)))
-  unfolding loadOf thousandths
-  load-shown = rounded _ _ (mul-pos (g .cores .pivot k h .0) (last-above f k g))
+  abbrev exact : ℕ
+  exact = exactLoad (f .budget) (f .factor) (f .divisor k) (orderOn f k)
 
-  pub load-most : loadOf f k ≤ 1000
+  abbrev full : ℕ
+  full = fullLoad (f .factor) (f .pivot k) (orderOn f k)
+
+  full-above : 0 < full
+  full-above = mul-pos (g .cores .pivot k h .0) (last-above f k g)
+
+  exact-above : 0 < exact
+  unfolding orderOn
+  exact-above =
+      let (i, low, here) = g .cores .not-bare k h in
+      let members = order-members (f .period) (f .core) k (f .tasks) in
+      load-above (f .budget) (f .factor) (f .divisor k) _ i (orderOn f k) (order-holds (f .period) (f .core) k (f .tasks) i low here) (g .cores .divisor k h .0) (last-above f k g)
+      (each-of _ (λ j m. g .tasks .budget j (m .0) .0) members)
+      (each-of _ (λ j m. g .cores .factor j (m .0) .0) members)
+      (multiples-last (f .factor) 1 (orderOn f k) (g .fits .simply-periodic k h))
+
+  -- It is the least whole number of thousandths that the exact load is at most.
+  pub load-shown : (1000 * exact ≤ loadOf f k * full) × ((x : ℕ) → 1000 * exact ≤ x * full → loadOf f k ≤ x)
+  unfolding loadOf thousandths
+  load-shown = (rw (mul-comm _ full) (ceiling-reaches (1000 * exact) full full-above), λ x q. ceiling-least (1000 * exact) full full-above x (rw (mul-comm full x) q))
+
+  -- An exact number of thousandths is shown as it is.
+  pub load-whole : (x : ℕ) → 1000 * exact ≡ x * full → loadOf f k ≡ x
+  unfolding loadOf thousandths
+  load-whole x e = ceiling-whole (1000 * exact) full full-above x (e ∙ mul-comm x full)
+
+  -- It is 1 to 1000.
+  pub load-range : (1 ≤ loadOf f k) × (loadOf f k ≤ 1000)
   unfolding loadOf thousandths LoadAtMostOne
-  load-most = thousand _ _ (g .fits .load k h)
+  load-range = (ceiling-positive (1000 * exact) full full-above (omega (arith, exact-above)), thousand exact full full-above (g .fits .load k h))
+
+  -- One thousandth less is below the exact load.
+  pub load-less : (loadOf f k - 1) * full < 1000 * exact
+  load-less = by (decLt ((loadOf f k - 1) * full) (1000 * exact))
+    where
+      by : Dec ((loadOf f k - 1) * full < 1000 * exact) → (loadOf f k - 1) * full < 1000 * exact
+      by (yes q) = q
+      by (no q) = absurd (omega (arith, load-range .0, load-shown .1 (loadOf f k - 1) (omega (arith, q))))

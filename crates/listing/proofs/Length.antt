@@ -29,7 +29,7 @@ use Rattle.listing.specs.Words as the
 use Rattle.listing.specs.Listing.{headerLine, taskLine, loadOf, coreLine, sheetText, refusedLine, textOf, listingOf}
 use Rattle.listing.proofs.Decimals.{field-short}
 use Rattle.listing.proofs.Figures.{within-small}
-use Rattle.listing.proofs.Laws.{load-most}
+use Rattle.listing.proofs.Laws.{load-range}
 
 -- each line
 fits : (x : ℕ) → x ≤ 120000 → Fits w32 x
@@ -65,7 +65,7 @@ module _ (f : Figures) (g : Fitting f) (few : f .cores ≤ 8) where
       let a = field-short the.core k space (omega arith) (fits _ (omega arith)) in
       let b = field-short the.pivot (f .pivot k) space (omega arith) (fits _ (omega (arith, g .cores .pivot k h .1))) in
       let c = field-short the.divisor (f .divisor k) space (omega arith) (fits _ (g .cores .divisor k h .1)) in
-      let d = field-short the.load (loadOf f k) lineFeed (omega arith) (fits _ (le-trans (load-most f k g h) (omega arith))) in
+      let d = field-short the.load (loadOf f k) lineFeed (omega arith) (fits _ (le-trans (load-range f k g h .1) (omega arith))) in
       simp length-append (omega (arith, a, b, c, d))
 
 -- all of them

@@ -1,9 +1,10 @@
 -- The listing: the text of any bytes, as ASCII codes (docs/SHEET.md, section 8). Every line ends with a line feed.
-use Prim.Native.Nat.{ℕ, _*_, _/_}
+use Prim.Native.Nat.{ℕ, _*_}
 use mathlib.Core.List.{List, [], _∷_, _++_}
 use Rattle.sheet.specs.Numbers.{word}
 use Rattle.sheet.specs.Records.{Figures, figures}
 use Rattle.fit.specs.Lists.{numbers, joined}
+use Rattle.fit.specs.Rounding.{ceiling}
 use Rattle.fit.specs.Fits.{exactLoad, fullLoad}
 use Rattle.fit.specs.Cores.{orderOn, withinOn}
 use Rattle.checker.specs.Verdict.{Outcome, accepted, refused, verdict}
@@ -29,9 +30,9 @@ taskLine f i =
     ++ field the.factor (f .factor i) space
     ++ field the.within (withinOn f (f .core i) i) lineFeed
 
--- a load in thousandths of a full one, rounded down
+-- a load in thousandths of a full one, rounded up
 unfoldable pub thousandths : ℕ → ℕ → ℕ
-thousandths load full = 1000 * load / full
+thousandths load full = ceiling (1000 * load) full
 
 -- the load of core k in thousandths: one division at the end, of the exact sum
 unfoldable pub loadOf : Figures → ℕ → ℕ

@@ -133,12 +133,12 @@ fn put_tasks(out: &mut [u8], at: usize, tasks: &[u8], cores: &[u8], n: u8, c: u8
     next
 }
 
-// A load in thousandths of a full one, rounded down.
+// A load in thousandths of a full one, rounded up.
 fn in_thousandths(load: u64, full: u64) -> u32
     requires { ⌜ (0 < full) × (load ≤ full) × (full ≤ 7_200_000_000) ⌝ }
     ensures { λ r. ⌜ r ≡ thousandths load full ⌝ }
 {
-    (1000 * load / full) as u32
+    ((1000 * load + full - 1) / full) as u32
 }
 
 // The load of core k in thousandths.

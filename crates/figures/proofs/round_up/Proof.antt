@@ -1,5 +1,5 @@
 use borrow.Author.Needs.{needs}
-use Rattle.figures.specs.Constructions.{ceiling}
+use Rattle.fit.specs.Rounding.{ceiling}
 use Rattle.figures.proofs.round_up.Statement.{statement}
 use Rattle.figures.proofs.round_up.Tie as tie
 use Rattle.figures.proofs.round_up.Reads as reads

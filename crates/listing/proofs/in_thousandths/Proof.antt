@@ -1,6 +1,7 @@
 use borrow.Author.Needs.{needs}
 use native.Mathlib.Omega.{arith}
 use mathlib.Core.Path.{refl}
+use Rattle.fit.specs.Rounding.{ceiling}
 use Rattle.listing.specs.Listing.{thousandths}
 use Rattle.listing.proofs.Figures.{thousand}
 use Rattle.listing.proofs.in_thousandths.Statement.{statement}
@@ -11,15 +12,22 @@ use Rattle.listing.proofs.in_thousandths.Lts as lts
 mul-result : tie.Need-mul-result
 mul-result c = search needs
 
+add-result : tie.Need-add-result
+add-result c = search needs
+
+sub-result : tie.Need-sub-result
+sub-result c = search needs
+
 div-result : tie.Need-div-result
 div-result c = search needs
 
 cast-result : tie.Need-cast-result
-cast-result c = omega (arith, thousand (c .args .load) (c .args .full) (omega arith))
+unfolding thousandths ceiling
+cast-result c = omega (arith, thousand (c .args .load) (c .args .full) (omega arith) (omega arith))
 
 returns : tie.Need-returns
-unfolding thousandths
+unfolding thousandths ceiling
 returns c = refl
 
 pub in-thousandths-spec : {M : Type 1} → statement M
-in-thousandths-spec = tie.close (tie.spec mul-result div-result cast-result returns)
+in-thousandths-spec = tie.close (tie.spec mul-result add-result sub-result div-result cast-result returns)

@@ -2,9 +2,9 @@
 -- Assumes nothing.
 use Prim.Native.Nat.{ℕ, zero, suc, _+_, _-_, _*_, _/_, _≤_, _<_}
 use mathlib.Core.Path.{_≡_}
-use native.Mathlib.Nat.{mul-one, mul-suc, mul-comm, mul-right-comm, mul-zero, mul-add, add-mul, one-mul, lt-mul-div-succ, mul-div-le, div-lt-iff-lt-mul, mul-le-mul-right, le-of-mul-le-mul-right, mul-pos, le-antisymm}
+use native.Mathlib.Nat.{mul-one, mul-suc, mul-comm, mul-right-comm, mul-zero, mul-add, add-mul, one-mul, lt-mul-div-succ, mul-div-le, div-lt-iff-lt-mul, mul-le-mul-right, le-of-mul-le-mul-left, le-of-mul-le-mul-right, mul-pos, le-antisymm}
 use native.Mathlib.Omega.{arith}
-use Rattle.figures.specs.Constructions.{ceiling}
+use Rattle.fit.specs.Rounding.{ceiling}
 
 module _ (a y : ℕ) (pos : 0 < y) where
   pub ceiling-reaches : a ≤ y * ceiling a y
@@ -17,6 +17,10 @@ module _ (a y : ℕ) (pos : 0 < y) where
       let less : a + y - 1 < (k + 1) * y = omega (arith, add-mul k 1 y, one-mul y, mul-comm y k) in
       let r : (a + y - 1) / y < k + 1 = div-lt-iff-lt-mul pos .1 less in
       omega arith
+
+  -- a whole quotient stays as it is
+  pub ceiling-whole : (k : ℕ) → a ≡ y * k → ceiling a y ≡ k
+  ceiling-whole k e = le-antisymm (ceiling-least k (omega arith)) (le-of-mul-le-mul-left (omega (arith, ceiling-reaches)) pos)
 
   -- one less does not reach
   pub ceiling-before : (k : ℕ) → 0 < a → ceiling a y ≡ suc k → y * k < a
