@@ -121,6 +121,13 @@ try 'list of a directory' 0 '' 'standard input: Is a directory\n' $list < exampl
 try 'list of a closed input' 0 '' 'standard input: Bad file descriptor\n' sh -c "$list <&-"
 try 'list of an input that breaks off' 0 '' 'standard input: Input/output error\n' broken $list
 
+# list: a load of 1999/2000 is rounded up, and half of one is 500 as it is.
+one_task='TSH 1 tasks 1 cores 1\ntask 0 core 0 period'
+try 'list of a core that is nearly full' 0 "$one_task 2000 budget 1999 factor 1 within 2000\ncore 0 pivot 2000 divisor 1 load 1000\n" '' \
+    $list < <(echo '2000 1999' | $plan)
+try 'list of a core that is half full' 0 "$one_task 2 budget 1 factor 1 within 2\ncore 0 pivot 2 divisor 1 load 500\n" '' \
+    $list < <(echo '2 1' | $plan)
+
 # The longest sheet, 712 bytes: 64 jobs that fill eight cores, eight each.
 longest=$(
     echo 'TSH 1 tasks 64 cores 8'

@@ -3,7 +3,7 @@
 use Prim.Native.Nat.{ℕ, _*_, _/_, _≤_, _<_, min}
 use mathlib.Core.Path.{_≡_, ap, _∙_}
 use native.Mathlib.Omega.{arith}
-use native.Mathlib.Nat.{le-trans, mul-le-mul, mul-pos, mul-le-mul-left, mul-comm}
+use native.Mathlib.Nat.{le-trans, mul-le-mul, mul-pos, div-le-of-le-mul, mul-le-mul-left, mul-comm}
 use borrow.Author.Tests.{le-leb}
 use lib.ListN.{length, take}
 use mir.Syntax.{w32}
@@ -39,6 +39,10 @@ within-found q m d x e = rw e
 
 pub within-cast : (q m d x : ℕ) → x ≡ q * m → within q d m ≤ 60000 → Fits w32 (x / d)
 within-cast q m d x e h = record { fits = omega (arith, within-found q m d x e) }
+
+-- a quotient of at most 1001 fits
+pub quotient-cast : (x full : ℕ) → x ≤ full * 1001 → Fits w32 (x / full)
+quotient-cast x full h = record { fits = omega (arith, div-le-of-le-mul full h) }
 
 -- a load that is at most one is at most 1000 thousandths
 pub thousand : (load full : ℕ) → 0 < full → load ≤ full → thousandths load full ≤ 1000

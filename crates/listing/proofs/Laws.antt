@@ -9,8 +9,10 @@ use native.Mathlib.Decide.{decLt}
 use native.Mathlib.Omega.{arith}
 use lib.ListN.{getD, List·getD-append}
 use Rattle.sheet.specs.Records.{Figures}
-use Rattle.fit.specs.Lists.{Each}
-use Rattle.fit.specs.Fits.{within, exactLoad, fullLoad}
+use Rattle.fit.specs.Lists.{Each, sum}
+use Rattle.fit.specs.Rounding.{ceiling}
+use Rattle.fit.specs.Priority.{above, insert, isOn, enter, order}
+use Rattle.fit.specs.Fits.{within, lastFactor, load, exactLoad, fullLoad}
 use Rattle.fit.proofs.Lists.{each-append, each-of}
 use Rattle.fit.proofs.Ceiling.{ceiling-reaches, ceiling-least, ceiling-whole, ceiling-positive}
 use Rattle.fit.proofs.Priority.{order-members, order-holds}
@@ -103,3 +105,22 @@ module _ (f : Figures) (k : ℕ) (g : Fitting f) (h : k < f .cores) where
       by : Dec ((loadOf f k - 1) * full < 1000 * exact) → (loadOf f k - 1) * full < 1000 * exact
       by (yes q) = q
       by (no q) = absurd (omega (arith, load-range .0, load-shown .1 (loadOf f k - 1) (omega (arith, q))))
+
+-- Nothing is rounded before the end: three tasks that take a third of their core each are shown as 1000, where their own thousandths,
+-- rounded up, would make 1002.
+abbrev thirds : Figures
+thirds =
+    record {
+      tasks = 3;
+      cores = 1;
+      period = λ i. 3;
+      budget = λ i. 1;
+      core = λ i. 0;
+      factor = λ i. 1;
+      pivot = λ k. 3;
+      divisor = λ k. 1;
+    }
+
+pub rounded-once : (loadOf thirds 0 ≡ 1000) × (3 * thousandths 1 3 ≡ 1002)
+unfolding loadOf thousandths ceiling orderOn order enter isOn insert above lastFactor load sum
+rounded-once = (refl, refl)

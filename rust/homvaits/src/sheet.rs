@@ -38,7 +38,7 @@ pub struct SheetCore {
     pub pivot: u16,
     /// Its divisor D.
     pub divisor: u32,
-    /// Its load in thousandths, rounded down; at most 1000.
+    /// Its load in thousandths, rounded up: 1 to 1000. At 1000 it may still be below one, by less than a thousandth.
     pub load: u16,
 }
 
@@ -123,7 +123,7 @@ impl Sheet {
             number,
             pivot,
             divisor,
-            load: (1000 * load / full) as u16,
+            load: (1000 * load).div_ceil(full) as u16,
         }
     }
 

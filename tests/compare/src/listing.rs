@@ -3,10 +3,28 @@
 use crate::lent::{same_bytes, Lent};
 use crate::session::{hex, same, Session};
 use inputs::Rng;
+use reference::{accept, Fraction};
 
 pub fn must_have_seen(session: &Session) {
     session.must_have_seen("list", &[(0, "an accepted sheet"), (0, "a refused sheet")]);
+    session.must_have_seen("list", &[(0, EXACT), (0, ROUNDED), (0, NEARLY_FULL)]);
     session.must_have_seen("list", &[(16, "place 0")]);
+}
+
+const EXACT: &str = "an exact load below 1000";
+const ROUNDED: &str = "a load rounded up to less than 1000";
+const NEARLY_FULL: &str = "a load below one rounded up to 1000";
+
+/// What the listing does to an exact load below one.
+fn rounding(load: Fraction) -> &'static str {
+    let thousandths = load.times(1000);
+    if thousandths.floor() == thousandths.ceil() {
+        EXACT
+    } else if thousandths < Fraction::whole(999) {
+        ROUNDED
+    } else {
+        NEARLY_FULL
+    }
 }
 
 /// Compare the listing of these bytes, now and then with a small output.
@@ -20,9 +38,16 @@ pub fn list(session: &mut Session, rng: &mut Rng, sheet: &[u8]) {
     let input = || format!("{} output of {room} bytes", hex(sheet));
     same("list", input, &reference, &library);
     same_bytes("list", input, &ours, &theirs);
-    let accepted = match reference::check(sheet).refusal {
-        0 => "an accepted sheet",
-        _ => "a refused sheet",
+    let accepted = accept(sheet);
+    let kind = match accepted {
+        Ok(_) => "an accepted sheet",
+        Err(_) => "a refused sheet",
     };
-    session.case("list", reference.refusal, reference.place, accepted);
+    session.case("list", reference.refusal, reference.place, kind);
+    if let (0, Ok(sheet)) = (reference.refusal, accepted) {
+        let loads = (0..sheet.cores.len()).map(|k| sheet.load(k));
+        loads
+            .filter(|&load| load < Fraction::whole(1))
+            .for_each(|load| session.saw("list", (0, rounding(load))));
+    }
 }

@@ -154,18 +154,44 @@ pub unsafe extern "C" fn homvaits_list(
     let (sheet, out) = (from_raw_parts(sheet, len), from_raw_parts_mut(out, out_len));
     let mut answer = list_into(sheet, out);
     // 16: the last line feed left out. 17: Tight by the text's length only.
+    // 18: loads rounded down.
     if wrong(16) && answer.refusal == 0 {
         answer.length -= 1;
     }
     if wrong(17) && answer.refusal == 16 {
         let text = list(sheet);
         if text.len() <= out.len() {
-            out[..text.len()].copy_from_slice(&text);
-            answer = ListAnswer {
-                length: text.len() as u16,
-                ..ListAnswer::default()
-            };
+            answer = put(&text, out);
         }
     }
+    if wrong(18) && answer.refusal == 0 {
+        answer = put(&loads_rounded_down(sheet), out);
+    }
     answer
+}
+
+fn put(text: &[u8], out: &mut [u8]) -> ListAnswer {
+    out[..text.len()].copy_from_slice(text);
+    ListAnswer {
+        length: text.len() as u16,
+        ..ListAnswer::default()
+    }
+}
+
+/// The listing of these bytes, the loads rounded down.
+fn loads_rounded_down(bytes: &[u8]) -> Vec<u8> {
+    let text = list(bytes);
+    let Ok(sheet) = accept(bytes) else {
+        return text;
+    };
+    let mut text = String::from_utf8(text).expect("a listing is ASCII");
+    for (k, core) in sheet.cores.iter().enumerate() {
+        let load = sheet.load(k).times(1000);
+        let line = |load: u128| {
+            let CoreRecord { pivot, divisor } = core;
+            format!("core {k} pivot {pivot} divisor {divisor} load {load}\n")
+        };
+        text = text.replace(&line(load.ceil()), &line(load.floor()));
+    }
+    text.into_bytes()
 }

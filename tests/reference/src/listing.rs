@@ -46,7 +46,7 @@ fn text(sheet: &Sheet) -> String {
             "core {k} pivot {} divisor {} load {}\n",
             core.pivot,
             core.divisor,
-            sheet.load(k).times(1000).floor()
+            sheet.load(k).times(1000).ceil()
         );
     }
     text

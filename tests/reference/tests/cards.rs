@@ -1,4 +1,5 @@
-//! The bench cards A to M of document 01: small inputs and what they must give.
+//! The bench cards A to M of document 01, and the loads of document 02: small
+//! inputs and what they must give.
 
 use reference::*;
 
@@ -111,6 +112,38 @@ fn b_listing() {
         task 2 core 0 period 13 budget 6 factor 4 within 12\n\
         core 0 pivot 3 divisor 1 load 1000\n";
     assert_eq!(String::from_utf8(list(&sheet)).unwrap(), text);
+}
+
+/// The load that is listed of a task alone on a core, at its own period.
+fn listed_load(period: u64, budget: u64) -> String {
+    let sheet = Sheet {
+        tasks: vec![TaskRecord {
+            period,
+            budget,
+            core: 0,
+            factor: 1,
+        }],
+        cores: vec![CoreRecord {
+            pivot: period,
+            divisor: 1,
+        }],
+    };
+    let text = String::from_utf8(list(&sheet.write())).unwrap();
+    text.trim_end().rsplit(' ').next().unwrap().to_string()
+}
+
+/// Document 02, N1: rounded up, and exact thousandths stay.
+#[test]
+fn loads_rounded_up() {
+    assert_eq!(listed_load(2, 1), "500");
+    assert_eq!(listed_load(3, 1), "334");
+    assert_eq!(listed_load(60_000, 1), "1");
+    assert_eq!(listed_load(1000, 999), "999");
+    assert_eq!(listed_load(1001, 1000), "1000");
+    assert_eq!(listed_load(2000, 1999), "1000");
+    assert_eq!(listed_load(60_000, 59_940), "999");
+    assert_eq!(listed_load(60_000, 59_941), "1000");
+    assert_eq!(listed_load(60_000, 60_000), "1000");
 }
 
 #[test]

@@ -3,7 +3,7 @@ use native.Mathlib.Omega.{arith}
 use mathlib.Core.Path.{refl}
 use Rattle.fit.specs.Rounding.{ceiling}
 use Rattle.listing.specs.Listing.{thousandths}
-use Rattle.listing.proofs.Figures.{thousand}
+use Rattle.listing.proofs.Figures.{quotient-cast}
 use Rattle.listing.proofs.in_thousandths.Statement.{statement}
 use Rattle.listing.proofs.in_thousandths.Tie as tie
 use Rattle.listing.proofs.in_thousandths.Reads as reads
@@ -22,8 +22,7 @@ div-result : tie.Need-div-result
 div-result c = search needs
 
 cast-result : tie.Need-cast-result
-unfolding thousandths ceiling
-cast-result c = omega (arith, thousand (c .args .load) (c .args .full) (omega arith) (omega arith))
+cast-result c = quotient-cast _ _ (omega arith)
 
 returns : tie.Need-returns
 unfolding thousandths ceiling
