@@ -5,7 +5,7 @@ mod common;
 use std::fmt::Write;
 
 use common::{sheets, Rng};
-use homvaits::{check, list, Sheet, LISTING_MAX};
+use homvaits::{check, list, plan, Job, Sheet, LISTING_MAX};
 
 fn text_of(sheet: &Sheet) -> String {
     let mut text = String::new();
@@ -48,6 +48,19 @@ fn tasks_and_cores_are_those_of_the_listing() {
     );
     assert!(planned > 2000 && made > 1000);
     assert!(full > 0 && largest > 100_000 && longest > 600);
+}
+
+#[test]
+fn a_load_is_rounded_up_and_an_exact_one_stays() {
+    let load = |period, budget| {
+        let sheet = plan(&[Job { period, budget }], 1, 0).unwrap();
+        let core = sheet.cores().next().unwrap();
+        core.load
+    };
+    assert_eq!(load(2000, 1999), 1000);
+    assert_eq!(load(1000, 999), 999);
+    assert_eq!(load(2, 1), 500);
+    assert_eq!(load(60_000, 1), 1);
 }
 
 #[test]
