@@ -91,17 +91,22 @@ module _ (e M : ℕ → ℕ) (Q D : ℕ) (q : 1 ≤ Q) where
       let r : total (part e M Q D) l .upper * (Q * M i * c) ≡ load e M D L l * total (part e M Q D) l .lower = rw a at (total-load L l (p .1) (m .1)) in
       rw (a, b) (one-more (e i * D) c (Q * M i) (total (part e M Q D) l .lower) (total (part e M Q D) l .upper) (load e M D L l) r)
 
-  full-load : (L : ℕ) (l : List ℕ) → 1 ≤ L → Each (λ i. 1 ≤ M i) l → Each (λ i. Multiple (M i) L) l → AtMost (total (part e M Q D) l) (wholeNumber 1) ↔ (load e M D L l ≤ Q * L)
-  unfolding AtMost wholeNumber
-  full-load L l pos p m =
-      let eq = total-load L l p m in (
-        (λ h. le-of-mul-le-mul-right (rw (← eq, mul-comm (Q * L) (total (part e M Q D) l .lower)) (mul-le-mul-right (Q * L) (omega arith))) (lower-positive l p)),
-        (λ h. rw (mul-one, one-mul) (le-of-mul-le-mul-right (rw (eq, mul-comm (total (part e M Q D) l .lower) (Q * L)) (mul-le-mul-right (total (part e M Q D) l .lower) h)) (mul-pos q pos))),
+  -- so the tasks take at most the part x / y of the time exactly where the load is at most that part of Q × L
+  pub total-at-most : (x y L : ℕ) (l : List ℕ) → 1 ≤ L → Each (λ i. 1 ≤ M i) l → Each (λ i. Multiple (M i) L) l → AtMost (total (part e M Q D) l) (record { upper = x; lower = y }) ↔ (y * load e M D L l ≤ x * (Q * L))
+  unfolding AtMost
+  total-at-most x y L l pos p m =
+      let u : ℕ = total (part e M Q D) l .upper in
+      let b : ℕ = total (part e M Q D) l .lower in
+      let left : u * y * (Q * L) ≡ y * load e M D L l * b = mul-right-comm u y (Q * L) ∙ rw (total-load L l p m) (mul-right-comm (load e M D L l) b y ∙ rw (mul-comm (load e M D L l) y)) in
+      let right : x * b * (Q * L) ≡ x * (Q * L) * b = mul-right-comm x b (Q * L) in (
+        (λ h. le-of-mul-le-mul-right (rw (← left, ← right) (mul-le-mul-right (Q * L) h)) (lower-positive l p)),
+        (λ h. le-of-mul-le-mul-right (rw (left, right) (mul-le-mul-right b h)) (mul-pos q pos)),
       )
 
 module _ (p e M : ℕ → ℕ) (Q D : ℕ) (q : 1 ≤ Q) (d : 1 ≤ D) (l : List ℕ) (pos : Each (λ i. 1 ≤ M i) l) where
   load-exactly : Multiples M 1 l → AtMost (total (part e M Q D) l) (wholeNumber 1) ↔ (exactLoad e M D l ≤ fullLoad M Q l)
-  load-exactly m = full-load e M Q D q (lastFactor M 1 l) l (last-positive M 1 l (omega arith) pos) pos (multiples-last M 1 l m)
+  unfolding wholeNumber
+  load-exactly m = rw (one-mul (exactLoad e M D l), one-mul (fullLoad M Q l)) at (total-at-most e M Q D q 1 1 (lastFactor M 1 l) l (last-positive M 1 l (omega arith) pos) pos (multiples-last M 1 l m))
 
   -- The tasks of a core are an accelerated simply periodic set that rises in priority order exactly when rules 12, 13 and 14 hold of them.
   pub paper-exactly : (AcceleratedSet p e M Q D l × Rising M Q D l) ↔ (Each (λ i. Q * M i ≤ p i * D) l × Multiples M 1 l × (exactLoad e M D l ≤ fullLoad M Q l))

@@ -3,6 +3,7 @@
 -- Assumes nothing.
 use Prim.Native.Nat.{ℕ, _+_, _-_, _*_, _/_, _%_, _≤_, _<_}
 use mathlib.Core.Path.{_≡_, refl, _∙_}
+use mathlib.Core.Logic.{_↔_}
 use mathlib.Core.List.{List, [], _∷_, _++_}
 use native.Mathlib.Nat.{div-mul-le-self, lt-mul-div-succ, mul-comm, mul-pos}
 use native.Mathlib.Decide.{decLt}
@@ -12,11 +13,13 @@ use Rattle.sheet.specs.Records.{Figures}
 use Rattle.fit.specs.Lists.{Each, sum}
 use Rattle.fit.specs.Rounding.{ceiling}
 use Rattle.fit.specs.Priority.{above, insert, isOn, enter, order}
-use Rattle.fit.specs.Fits.{within, lastFactor, load, exactLoad, fullLoad}
+use Rattle.fit.specs.Fits.{Multiple, within, lastFactor, load, exactLoad, fullLoad}
+use Rattle.fit.specs.Periodic.{Fraction, AtMost, total, accelerated, utilisation}
 use Rattle.fit.proofs.Lists.{each-append, each-of}
 use Rattle.fit.proofs.Ceiling.{ceiling-reaches, ceiling-least, ceiling-whole, ceiling-positive}
 use Rattle.fit.proofs.Priority.{order-members, order-holds}
 use Rattle.fit.proofs.Levels.{multiples-last, load-above}
+use Rattle.fit.proofs.Periodic.{total-at-most}
 use Rattle.fit.specs.Cores.{orderOn, withinOn}
 use Rattle.checker.specs.Accepted.{Fitting, LoadAtMostOne}
 use Rattle.listing.specs.Decimal.{decimal, valueFrom}
@@ -62,7 +65,8 @@ pub listed-within : (f : Figures) (k : ℕ) → Each (λ i. withinOn f (f .core 
 unfolding orderOn
 listed-within f k = each-of _ (λ i m. rw (m .1)) (order-members (f .period) (f .core) k (f .tasks))
 
--- The load that is shown of a core, in thousandths, and its exact load, which is a part of a full one.
+-- The load that is shown of a core, in thousandths, and its exact load: a number of which `full` is the whole, and a fraction, the sum of
+-- each budget divided by its task's accelerated period.
 module _ (f : Figures) (k : ℕ) (g : Fitting f) (h : k < f .cores) where
   abbrev exact : ℕ
   exact = exactLoad (f .budget) (f .factor) (f .divisor k) (orderOn f k)
@@ -70,23 +74,38 @@ module _ (f : Figures) (k : ℕ) (g : Fitting f) (h : k < f .cores) where
   abbrev full : ℕ
   full = fullLoad (f .factor) (f .pivot k) (orderOn f k)
 
+  abbrev fraction : Fraction
+  fraction = total (λ i. utilisation (f .budget i) (accelerated (f .factor) (f .pivot k) (f .divisor k) i)) (orderOn f k)
+
   full-above : 0 < full
   full-above = mul-pos (g .cores .pivot k h .0) (last-above f k g)
+
+  factors-above : Each (λ i. 1 ≤ f .factor i) (orderOn f k)
+  unfolding orderOn
+  factors-above = each-of _ (λ i m. g .cores .factor i (m .0) .0) (order-members (f .period) (f .core) k (f .tasks))
+
+  divide-last : Each (λ i. Multiple (f .factor i) (lastFactor (f .factor) 1 (orderOn f k))) (orderOn f k)
+  divide-last = multiples-last (f .factor) 1 (orderOn f k) (g .fits .simply-periodic k h)
 
   exact-above : 0 < exact
   unfolding orderOn
   exact-above =
       let (i, low, here) = g .cores .not-bare k h in
-      let members = order-members (f .period) (f .core) k (f .tasks) in
-      load-above (f .budget) (f .factor) (f .divisor k) _ i (orderOn f k) (order-holds (f .period) (f .core) k (f .tasks) i low here) (g .cores .divisor k h .0) (last-above f k g)
-      (each-of _ (λ j m. g .tasks .budget j (m .0) .0) members)
-      (each-of _ (λ j m. g .cores .factor j (m .0) .0) members)
-      (multiples-last (f .factor) 1 (orderOn f k) (g .fits .simply-periodic k h))
+      let held = order-holds (f .period) (f .core) k (f .tasks) i low here in
+      let budgets = each-of _ (λ j m. g .tasks .budget j (m .0) .0) (order-members (f .period) (f .core) k (f .tasks)) in
+      load-above (f .budget) (f .factor) (f .divisor k) _ i (orderOn f k) held (g .cores .divisor k h .0) (last-above f k g) budgets factors-above divide-last
 
   -- It is the least whole number of thousandths that the exact load is at most.
   pub load-shown : (1000 * exact ≤ loadOf f k * full) × ((x : ℕ) → 1000 * exact ≤ x * full → loadOf f k ≤ x)
   unfolding loadOf thousandths
   load-shown = (rw (mul-comm _ full) (ceiling-reaches (1000 * exact) full full-above), λ x q. ceiling-least (1000 * exact) full full-above x (rw (mul-comm full x) q))
+
+  -- The same of the fraction.
+  pub load-fraction : AtMost fraction (record { upper = loadOf f k; lower = 1000 }) × ((x : ℕ) → AtMost fraction (record { upper = x; lower = 1000 }) → loadOf f k ≤ x)
+  load-fraction = (at-most (loadOf f k) .1 (load-shown .0), λ x q. load-shown .1 x (at-most x .0 q))
+    where
+      at-most : (x : ℕ) → AtMost fraction (record { upper = x; lower = 1000 }) ↔ (1000 * exact ≤ x * full)
+      at-most x = total-at-most (f .budget) (f .factor) (f .pivot k) (f .divisor k) (g .cores .pivot k h .0) x 1000 _ (orderOn f k) (last-above f k g) factors-above divide-last
 
   -- An exact number of thousandths is shown as it is.
   pub load-whole : (x : ℕ) → 1000 * exact ≡ x * full → loadOf f k ≡ x
