@@ -1,5 +1,5 @@
--- The bench cards A to P, small inputs each with what it must give, and the listings of B, C and P, as one table about the definitions
--- (docs/SHEET.md, sections 4 to 8). N, O and P are our own, worked out by hand from sections 5, 4 and 8.
+-- The bench cards A to Q, small inputs each with what it must give, and the listings of B, C and P, as one table about the definitions
+-- (docs/SHEET.md, sections 4 to 8). N to Q are our own, worked out by hand from sections 3 to 5 and 8.
 use Prim.Native.Nat.{ℕ, _/_, _%_}
 use Prim.Native.String.{String}
 use mathlib.Core.Path.{_≡_}
@@ -44,7 +44,7 @@ listed e M = header 3 1 ++ (task 3 1 1 ++ (task 7 1 2 ++ (task 13 e M ++ core 3 
 abbrev pub unchained : List ℕ
 unchained = header 2 1 ++ (task 5 1 2 ++ (task 6 1 1 ++ core 2 1))
 
--- records of a task on core 0 and of a core, whose period, budget and pivot may have two bytes
+-- a number of two bytes, and records in which period, budget and pivot are such
 abbrev pub two : ℕ → List ℕ
 two x = x % 256 ∷ x / 256 ∷ []
 
@@ -180,7 +180,7 @@ linesB =
 abbrev pub linesC : List String
 linesC = "refused 14 place 64" ∷ []
 
--- the listing of the sheet to which card P adds a job
+-- the listing of card P
 abbrev pub linesP : List String
 linesP =
     "TSH 1 tasks 1 cores 1"
@@ -188,7 +188,7 @@ linesP =
     ∷ "core 0 pivot 2000 divisor 1 load 1000"
     ∷ []
 
--- The cards. A to F, O and P are verdicts, G to I and N plans, J and K runs on the sheet of I, L a run on the bench, M a ring order; then
+-- The cards. A to F and O to Q are verdicts, G to I and N plans, J and K runs on the sheet of I, L a run on the bench, M a ring order; then
 -- the listings.
 pub record Cards : Type 0 where
   pub A : verdict (header 0 0) ≡ checker.accepted 0 0
@@ -214,7 +214,8 @@ pub record Cards : Type 0 where
       × (sheetFor jobsN (fitOf jobsN 2 1) ≡ header 3 2 ++ (taskOn 0 3 1 1 ++ (taskOn 1 4 1 1 ++ (taskOn 0 5 3 2 ++ (core 5 2 ++ core 4 1)))))
       × (sheetFor jobsN (fitOf jobsN 2 0) ≡ header 3 2 ++ (taskOn 1 3 1 1 ++ (taskOn 0 4 1 1 ++ (taskOn 0 5 3 1 ++ (core 4 1 ++ core 3 1)))))
   pub O : verdict unchained ≡ checker.refused 13 1
-  pub P : verdict overfull ≡ checker.refused 14 64
+  pub P : verdict nearlyFull ≡ checker.accepted 1 1
+  pub Q : verdict overfull ≡ checker.refused 14 64
   pub listingB : listingOf (listed 6 4) ≡ text linesB
   pub listingC : listingOf (listed 7 4) ≡ text linesC
   pub listingP : listingOf nearlyFull ≡ text linesP

@@ -104,7 +104,7 @@ fn overfull() -> [u8; 36]
     *b"TSH\x01\x00\x02\x01\x00\xd0\x07\xcf\x07\x00\x00\x01\x00\x00\x00\xa0\x0f\x03\x00\x00\x00\x02\x00\x00\x00\xd0\x07\x00\x00\x01\x00\x00\x00"
 }
 
-// Cards A to F, O and P: what the checker answers.
+// Cards A to F and O to Q: what the checker answers.
 fn check_card(name: &[u8], sheet: &[u8]) {
     print(name);
     let verdict = checker::check(sheet);
@@ -354,7 +354,8 @@ fn main() {
     card_m();
     card_n(&jobs_n());
     check_card(b"O", &unchained());
-    check_card(b"P", &overfull());
+    check_card(b"P", &nearly_full());
+    check_card(b"Q", &overfull());
     print_listing(&listed(6, 4));
     print_listing(&listed(7, 4));
     print_listing(&nearly_full());

@@ -143,7 +143,7 @@ falling-set = (
 )
 
 -- Nothing is rounded. With pivot 11, divisor 2 and factor 1 the accelerated period, 11 / 2, is above a period of 5, though its whole part
--- is not. Two tasks of budget 1001 on a period of 2001 are above one, though in whole thousandths each is 500.
+-- is not. Two tasks of budget 1001 on a period of 2001 are above one, though in thousandths rounded down each is 500.
 pub never-rounded : (stretched 11 2 5 1 ≡ true) × (within 11 2 1 ≡ 5) × (overloaded (λ i. 1001) (λ i. 1) 2001 1 (0 ∷ 1 ∷ []) ≡ true) × (1000 * 1001 / 2001 ≡ 500)
 unfolding stretched within overloaded load lastFactor sum
 never-rounded = (refl, refl, refl, refl)

@@ -3,7 +3,7 @@
 use Prim.Native.Nat.{ℕ, _*_, _/_, _≤_, _<_, min}
 use mathlib.Core.Path.{_≡_, ap, _∙_}
 use native.Mathlib.Omega.{arith}
-use native.Mathlib.Nat.{le-trans, mul-le-mul, mul-pos, div-le-of-le-mul, mul-le-mul-left, mul-comm}
+use native.Mathlib.Nat.{le-trans, mul-le-mul, mul-pos, div-le-of-le-mul}
 use borrow.Author.Tests.{le-leb}
 use lib.ListN.{length, take}
 use mir.Syntax.{w32}
@@ -12,11 +12,11 @@ use Rattle.sheet.specs.Records.{Figures}
 use Rattle.fit.specs.declared.Order.{Order}
 use Rattle.fit.specs.declared.Chain.{Chain}
 use Rattle.fit.specs.declared.Chain.the-variants.{Whole, Broken}
+use Rattle.fit.specs.Lists.{Each}
 use Rattle.fit.specs.Priority.{order}
 use Rattle.fit.specs.Fits.{lastFactor, load, within}
 use Rattle.fit.specs.Answers.{Ordered, chainAnswer, chained, loadInRange}
 use Rattle.fit.proofs.Lists.{each-of}
-use Rattle.fit.proofs.Ceiling.{ceiling-least}
 use Rattle.fit.proofs.Priority.{order-members, order-count}
 use Rattle.fit.proofs.Levels.{multiples-chain, load-last, last-positive, within-period}
 use Rattle.fit.specs.Cores.{orderOn}
@@ -44,20 +44,18 @@ within-cast q m d x e h = record { fits = omega (arith, within-found q m d x e) 
 pub quotient-cast : (x full : ℕ) → x ≤ full * 1001 → Fits w32 (x / full)
 quotient-cast x full h = record { fits = omega (arith, div-le-of-le-mul full h) }
 
--- a load that is at most one is at most 1000 thousandths
-pub thousand : (load full : ℕ) → 0 < full → load ≤ full → thousandths load full ≤ 1000
-unfolding thousandths
-thousand load full pos h = ceiling-least (1000 * load) full pos 1000 (rw (mul-comm full 1000) (mul-le-mul-left 1000 h))
-
--- the last factor of a core's tasks is in range
+-- the factors of a core's tasks are positive, and the last one is in range
 module _ (f : Figures) (k : ℕ) (g : Fitting f) where
+  pub factors-above : Each (λ i. 0 < f .factor i) (orderOn f k)
+  unfolding orderOn
+  factors-above = each-of _ (λ i m. g .cores .factor i (m .0) .0) (order-members (f .period) (f .core) k (f .tasks))
+
   last-small : lastFactor (f .factor) 1 (orderOn f k) ≤ 120000
   unfolding orderOn
   last-small = load-last (f .factor) 120000 1 _ (omega arith) (each-of _ (λ i m. g .cores .factor i (m .0) .1) (order-members (f .period) (f .core) k (f .tasks)))
 
   pub last-above : 0 < lastFactor (f .factor) 1 (orderOn f k)
-  unfolding orderOn
-  last-above = last-positive (f .factor) 1 _ (omega arith) (each-of _ (λ i m. g .cores .factor i (m .0) .0) (order-members (f .period) (f .core) k (f .tasks)))
+  last-above = last-positive (f .factor) 1 _ (omega arith) factors-above
 
 module _ (f : Figures) (k : ℕ) (o : Order) (chain : Chain) (g : Fitting f) (n : f .tasks ≤ 64) (h : k < f .cores) (s : Ordered (order (f .period) (f .core) k (min (f .tasks) 64)) o) (e : chain ≡ chained (f .factor) (take (o .count) (o .tasks))) where
   listed : take (o .count) (o .tasks) ≡ orderOn f k
@@ -90,8 +88,8 @@ module _ (f : Figures) (k : ℕ) (o : Order) (chain : Chain) (g : Fitting f) (n 
 
       -- the load is at most full, and full is in range
       module _ (q full : ℕ) (eq : q ≡ f .pivot k) (ef : full ≡ q * last) where
-        pub load-positive : 0 < full
-        load-positive =
+        pub full-positive : 0 < full
+        full-positive =
             let a : 0 < q = rw eq (g .cores .pivot k h .0) in
             rw (ef, is-last) (mul-pos a (last-above f k g))
 
@@ -99,8 +97,8 @@ module _ (f : Figures) (k : ℕ) (o : Order) (chain : Chain) (g : Fitting f) (n 
         unfolding LoadAtMostOne
         load-full = rw (ef, eq, is-last, found) (g .fits .load k h)
 
-        pub load-range : full ≤ 7200000000
-        load-range =
+        pub full-range : full ≤ 7200000000
+        full-range =
             let b : q ≤ 60000 = rw eq (g .cores .pivot k h .1) in
             let l : last ≤ 120000 = rw is-last (last-small f k g) in
             let c : q * last ≤ 60000 * 120000 = mul-le-mul b l in

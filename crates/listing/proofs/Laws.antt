@@ -5,8 +5,7 @@ use Prim.Native.Nat.{ℕ, _+_, _-_, _*_, _/_, _%_, _≤_, _<_}
 use mathlib.Core.Path.{_≡_, refl, _∙_}
 use mathlib.Core.Logic.{_↔_}
 use mathlib.Core.List.{List, [], _∷_, _++_}
-use native.Mathlib.Nat.{div-mul-le-self, lt-mul-div-succ, mul-comm, mul-pos}
-use native.Mathlib.Decide.{decLt}
+use native.Mathlib.Nat.{div-mul-le-self, lt-mul-div-succ, mul-comm, mul-pos, mul-le-mul-left}
 use native.Mathlib.Omega.{arith}
 use lib.ListN.{getD, List·getD-append}
 use Rattle.sheet.specs.Records.{Figures}
@@ -16,7 +15,7 @@ use Rattle.fit.specs.Priority.{above, insert, isOn, enter, order}
 use Rattle.fit.specs.Fits.{Multiple, within, lastFactor, load, exactLoad, fullLoad}
 use Rattle.fit.specs.Periodic.{Fraction, AtMost, total, accelerated, utilisation}
 use Rattle.fit.proofs.Lists.{each-append, each-of}
-use Rattle.fit.proofs.Ceiling.{ceiling-reaches, ceiling-least, ceiling-whole, ceiling-positive}
+use Rattle.fit.proofs.Ceiling.{ceiling-reaches, ceiling-least, ceiling-whole, ceiling-before, ceiling-positive}
 use Rattle.fit.proofs.Priority.{order-members, order-holds}
 use Rattle.fit.proofs.Levels.{multiples-last, load-above}
 use Rattle.fit.proofs.Periodic.{total-at-most}
@@ -25,7 +24,7 @@ use Rattle.checker.specs.Accepted.{Fitting, LoadAtMostOne}
 use Rattle.listing.specs.Decimal.{decimal, valueFrom}
 use Rattle.listing.specs.Listing.{thousandths, loadOf}
 use Rattle.listing.proofs.Decimals.{decimal-one, decimal-more, length-above, decimal-induction}
-use Rattle.listing.proofs.Figures.{thousand, last-above}
+use Rattle.listing.proofs.Figures.{factors-above, last-above}
 
 value-last : (v d : ℕ) (l : List ℕ) → valueFrom v (l ++ d ∷ []) ≡ 10 * valueFrom v l + (d - 48)
 unfolding valueFrom
@@ -80,10 +79,6 @@ module _ (f : Figures) (k : ℕ) (g : Fitting f) (h : k < f .cores) where
   full-above : 0 < full
   full-above = mul-pos (g .cores .pivot k h .0) (last-above f k g)
 
-  factors-above : Each (λ i. 1 ≤ f .factor i) (orderOn f k)
-  unfolding orderOn
-  factors-above = each-of _ (λ i m. g .cores .factor i (m .0) .0) (order-members (f .period) (f .core) k (f .tasks))
-
   divide-last : Each (λ i. Multiple (f .factor i) (lastFactor (f .factor) 1 (orderOn f k))) (orderOn f k)
   divide-last = multiples-last (f .factor) 1 (orderOn f k) (g .fits .simply-periodic k h)
 
@@ -93,37 +88,34 @@ module _ (f : Figures) (k : ℕ) (g : Fitting f) (h : k < f .cores) where
       let (i, low, here) = g .cores .not-bare k h in
       let held = order-holds (f .period) (f .core) k (f .tasks) i low here in
       let budgets = each-of _ (λ j m. g .tasks .budget j (m .0) .0) (order-members (f .period) (f .core) k (f .tasks)) in
-      load-above (f .budget) (f .factor) (f .divisor k) _ i (orderOn f k) held (g .cores .divisor k h .0) (last-above f k g) budgets factors-above divide-last
+      load-above (f .budget) (f .factor) (f .divisor k) _ i (orderOn f k) held (g .cores .divisor k h .0) (last-above f k g) budgets (factors-above f k g) divide-last
 
-  -- It is the least whole number of thousandths that the exact load is at most.
+  -- The load shown is the least whole number of thousandths that is not below the exact load.
   pub load-shown : (1000 * exact ≤ loadOf f k * full) × ((x : ℕ) → 1000 * exact ≤ x * full → loadOf f k ≤ x)
   unfolding loadOf thousandths
   load-shown = (rw (mul-comm _ full) (ceiling-reaches (1000 * exact) full full-above), λ x q. ceiling-least (1000 * exact) full full-above x (rw (mul-comm full x) q))
 
-  -- The same of the fraction.
+  -- The same of the load as a fraction.
   pub load-fraction : AtMost fraction (record { upper = loadOf f k; lower = 1000 }) × ((x : ℕ) → AtMost fraction (record { upper = x; lower = 1000 }) → loadOf f k ≤ x)
   load-fraction = (at-most (loadOf f k) .1 (load-shown .0), λ x q. load-shown .1 x (at-most x .0 q))
     where
       at-most : (x : ℕ) → AtMost fraction (record { upper = x; lower = 1000 }) ↔ (1000 * exact ≤ x * full)
-      at-most x = total-at-most (f .budget) (f .factor) (f .pivot k) (f .divisor k) (g .cores .pivot k h .0) x 1000 _ (orderOn f k) (last-above f k g) factors-above divide-last
+      at-most x = total-at-most (f .budget) (f .factor) (f .pivot k) (f .divisor k) (g .cores .pivot k h .0) x 1000 _ (orderOn f k) (last-above f k g) (factors-above f k g) divide-last
 
   -- An exact number of thousandths is shown as it is.
   pub load-whole : (x : ℕ) → 1000 * exact ≡ x * full → loadOf f k ≡ x
   unfolding loadOf thousandths
   load-whole x e = ceiling-whole (1000 * exact) full full-above x (e ∙ mul-comm x full)
 
-  -- It is 1 to 1000.
+  -- The load shown is 1 to 1000.
   pub load-range : (1 ≤ loadOf f k) × (loadOf f k ≤ 1000)
   unfolding loadOf thousandths LoadAtMostOne
-  load-range = (ceiling-positive (1000 * exact) full full-above (omega (arith, exact-above)), thousand exact full full-above (g .fits .load k h))
+  load-range = (ceiling-positive (1000 * exact) full full-above (omega (arith, exact-above)), load-shown .1 1000 (mul-le-mul-left 1000 (g .fits .load k h)))
 
-  -- One thousandth less is below the exact load.
+  -- One thousandth less than it is below the exact load.
   pub load-less : (loadOf f k - 1) * full < 1000 * exact
-  load-less = by (decLt ((loadOf f k - 1) * full) (1000 * exact))
-    where
-      by : Dec ((loadOf f k - 1) * full < 1000 * exact) → (loadOf f k - 1) * full < 1000 * exact
-      by (yes q) = q
-      by (no q) = absurd (omega (arith, load-range .0, load-shown .1 (loadOf f k - 1) (omega (arith, q))))
+  unfolding loadOf thousandths
+  load-less = rw (mul-comm (loadOf f k - 1) full) (ceiling-before (1000 * exact) full full-above (loadOf f k - 1) (omega (arith, exact-above)) (omega (arith, load-range .0)))
 
 -- Nothing is rounded before the end: three tasks that take a third of their core each are shown as 1000, where their own thousandths,
 -- rounded up, would make 1002.

@@ -7,19 +7,19 @@ use reference::{accept, Fraction};
 
 pub fn must_have_seen(session: &Session) {
     session.must_have_seen("list", &[(0, "an accepted sheet"), (0, "a refused sheet")]);
-    session.must_have_seen("list", &[(0, EXACT), (0, ROUNDED), (0, NEARLY_FULL)]);
+    session.must_have_seen("list", &[(0, WHOLE), (0, ROUNDED), (0, NEARLY_FULL)]);
     session.must_have_seen("list", &[(16, "place 0")]);
 }
 
-const EXACT: &str = "an exact load below 1000";
-const ROUNDED: &str = "a load rounded up to less than 1000";
-const NEARLY_FULL: &str = "a load below one rounded up to 1000";
+const WHOLE: &str = "a load of whole thousandths, below 1000";
+const ROUNDED: &str = "a load rounded up to at most 999";
+const NEARLY_FULL: &str = "a load rounded up to 1000";
 
-/// What the listing does to an exact load below one.
+/// What the listing does to a load below one.
 fn rounding(load: Fraction) -> &'static str {
     let thousandths = load.times(1000);
     if thousandths.floor() == thousandths.ceil() {
-        EXACT
+        WHOLE
     } else if thousandths < Fraction::whole(999) {
         ROUNDED
     } else {

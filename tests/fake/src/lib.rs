@@ -152,9 +152,12 @@ pub unsafe extern "C" fn homvaits_list(
     out_len: usize,
 ) -> ListAnswer {
     let (sheet, out) = (from_raw_parts(sheet, len), from_raw_parts_mut(out, out_len));
-    let mut answer = list_into(sheet, out);
     // 16: the last line feed left out. 17: Tight by the text's length only.
     // 18: loads rounded down.
+    if wrong(18) && out.len() >= LISTING_ROOM {
+        return put(&loads_rounded_down(sheet), out);
+    }
+    let mut answer = list_into(sheet, out);
     if wrong(16) && answer.refusal == 0 {
         answer.length -= 1;
     }
@@ -163,9 +166,6 @@ pub unsafe extern "C" fn homvaits_list(
         if text.len() <= out.len() {
             answer = put(&text, out);
         }
-    }
-    if wrong(18) && answer.refusal == 0 {
-        answer = put(&loads_rounded_down(sheet), out);
     }
     answer
 }

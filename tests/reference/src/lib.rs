@@ -1,8 +1,8 @@
-//! Timing sheets as plain Rust, written from document 01 and the changes of
-//! document 02, which docs/SHEET.md says in our words, and from the readings
-//! of their open sentences, not from the verified code. It is for clarity and
-//! not for speed, and is total: any bytes, any numbers and any state have an
-//! answer. All arithmetic is exact.
+//! Timing sheets as plain Rust, written from document 01 and the requests of
+//! document 02 that have landed, which docs/SHEET.md says in our words, and
+//! from the readings of their open sentences, not from the verified code. It
+//! is for clarity and not for speed, and is total: any bytes, any numbers and
+//! any state have an answer. All arithmetic is exact.
 
 mod answers;
 mod checker;

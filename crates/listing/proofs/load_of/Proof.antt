@@ -1,6 +1,6 @@
 use borrow.Author.Needs.{needs}
 use Rattle.fit.proofs.Sorting.{ordered-length}
-use Rattle.listing.proofs.Figures.{no-break, load-positive, load-full, load-range, load-found}
+use Rattle.listing.proofs.Figures.{no-break, full-positive, load-full, full-range, load-found}
 use Rattle.listing.proofs.load_of.Statement.{statement}
 use Rattle.listing.proofs.load_of.Tie as tie
 use Rattle.listing.proofs.load_of.Reads as reads
@@ -50,7 +50,7 @@ product-requires : tie.Need-product-requires
 product-requires c κs = search needs
 
 in-thousandths-requires : tie.Need-in-thousandths-requires
-in-thousandths-requires c κs = (search load-positive, search load-full, search load-range)
+in-thousandths-requires c κs = (search full-positive, search load-full, search full-range)
 
 returns : tie.Need-returns
 returns c = search no-break
