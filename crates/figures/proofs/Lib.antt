@@ -12,3 +12,4 @@ pub mod SrLoop
 pub mod DctLoops
 pub mod LoadLoop
 pub mod Rounds
+pub mod SrHolds

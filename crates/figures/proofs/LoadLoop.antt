@@ -15,9 +15,8 @@ use mir.Val.{Fits}
 use Rattle.fit.specs.Lists.{numbers, sum, at}
 use Rattle.fit.specs.Fits.{lastFactor, load, overloaded}
 use Rattle.fit.proofs.Lists.{sum-numbers}
-use Rattle.figures.specs.declared.CoreFigures.{CoreFigures}
 use Rattle.figures.specs.Passing.{passes}
-use Rattle.figures.specs.Steps.{Usable, readBack}
+use Rattle.figures.specs.Steps.{Usable}
 
 -- the load of the first i places, with divisor d and last factor L
 unfoldable pub loadTo : List ℕ → List ℕ → ℕ → ℕ → ℕ → ℕ
@@ -31,25 +30,22 @@ pub record LoadLoop (es ms : List ℕ) (d L limit total i : ℕ) : Type 0 where
   pub light : total ≤ limit
   pub same : total ≡ loadTo es ms d L i
 
-module _ (f : CoreFigures) (es : List ℕ) (u : Usable f (length es)) where
-  last-inside : length es - 1 < length es
-  last-inside = omega (arith, u .some)
-
-  last-high : at (f .factors) (length es - 1) ≤ 120000
-  last-high = u .factors (length es - 1) last-inside .1
+module _ (es ms : List ℕ) (d : ℕ) (u : Usable d ms (length es)) where
+  last-high : at ms (length es - 1) ≤ 120000
+  last-high = u .factors (length es - 1) (omega (arith, u .some)) .1
 
   module _ (w : ℕ) (small : w < 65536) where
-    limit-high : w * at (f .factors) (length es - 1) ≤ 7864200000
+    limit-high : w * at ms (length es - 1) ≤ 7864200000
     limit-high = mul-le-mul {n₂ = 65535} {m₂ = 120000} (omega arith) last-high
 
-    pub limit-fits : Fits w64 (w * at (f .factors) (length es - 1))
+    pub limit-fits : Fits w64 (w * at ms (length es - 1))
     limit-fits = record { fits = omega (arith, limit-high) }
 
-    pub load-start : LoadLoop es (f .factors) (f .divisor) (at (f .factors) (length es - 1)) (w * at (f .factors) (length es - 1)) 0 0
+    pub load-start : LoadLoop es ms d (at ms (length es - 1)) (w * at ms (length es - 1)) 0 0
     unfolding sum numbers loadTo
     load-start = record { divisor = u .divisor; high = last-high; bound = limit-high; light = zero-le; same = refl }
 
-  pub factor-positive : (i : ℕ) → i < length es → 1 ≤ at (f .factors) i
+  pub factor-positive : (i : ℕ) → i < length es → 1 ≤ at ms i
   factor-positive i h = u .factors i h .0
 
 -- a longer sum is no smaller
@@ -77,27 +73,27 @@ unfolding lastFactor numbers
 last-place M d k zero = ap M (sym (add-zero k))
 last-place M d k (suc n) = last-place M (M k) (suc k) n ∙ ap M (suc-add k n ∙ sym (add-suc k n))
 
-module _ (f : CoreFigures) (es : List ℕ) (u : Usable f (length es)) (w : ℕ) (pivot : w ≡ f .pivot) where
-  last-is : lastFactor (at (f .factors)) 1 (numbers 0 (length es)) ≡ at (f .factors) (length es - 1)
+module _ (es ms : List ℕ) (d : ℕ) (u : Usable d ms (length es)) (w q : ℕ) (pivot : w ≡ q) where
+  last-is : lastFactor (at ms) 1 (numbers 0 (length es)) ≡ at ms (length es - 1)
   last-is =
       let n : suc (length es - 1) ≡ length es = omega (arith, u .some) in
-      ap (λ t. lastFactor (at (f .factors)) 1 (numbers 0 t)) (sym n) ∙ last-place (at (f .factors)) 1 0 (length es - 1) ∙ ap (at (f .factors)) (zero-add (length es - 1))
+      ap (λ t. lastFactor (at ms) 1 (numbers 0 t)) (sym n) ∙ last-place (at ms) 1 0 (length es - 1) ∙ ap (at ms) (zero-add (length es - 1))
 
-  test-is : passes es (readBack f) ≡ not (ltb (w * at (f .factors) (length es - 1)) (loadTo es (f .factors) (f .divisor) (at (f .factors) (length es - 1)) (length es)))
-  unfolding passes readBack overloaded load loadTo
+  test-is : passes es (record { Q = q; D = d; factors = ms }) ≡ not (ltb (w * at ms (length es - 1)) (loadTo es ms d (at ms (length es - 1)) (length es)))
+  unfolding passes overloaded load loadTo
   test-is = rw (last-is, pivot)
 
-  module _ (total i : ℕ) (s : LoadLoop es (f .factors) (f .divisor) (at (f .factors) (length es - 1)) (w * at (f .factors) (length es - 1)) total i) where
-    pub load-end : i ≤ length es → length es ≤ i → true ≡ passes es (readBack f)
+  module _ (total i : ℕ) (s : LoadLoop es ms d (at ms (length es - 1)) (w * at ms (length es - 1)) total i) where
+    pub load-end : i ≤ length es → length es ≤ i → true ≡ passes es (record { Q = q; D = d; factors = ms })
     load-end a b =
-        let whole : total ≡ loadTo es (f .factors) (f .divisor) (at (f .factors) (length es - 1)) (length es) = s .same ∙ ap (loadTo es (f .factors) (f .divisor) _) (omega arith) in
+        let whole : total ≡ loadTo es ms d (at ms (length es - 1)) (length es) = s .same ∙ ap (loadTo es ms d _) (omega arith) in
         rw (test-is, le-ltb _ _ (rw whole at (s .light)))
 
-    pub load-over : (x e : ℕ) → i < length es → e ≡ at es i → x ≡ e * f .divisor * (at (f .factors) (length es - 1) / at (f .factors) i) → w * at (f .factors) (length es - 1) < total + x → false ≡ passes es (readBack f)
+    pub load-over : (x e : ℕ) → i < length es → e ≡ at es i → x ≡ e * d * (at ms (length es - 1) / at ms i) → w * at ms (length es - 1) < total + x → false ≡ passes es (record { Q = q; D = d; factors = ms })
     unfolding loadTo
     load-over x e h here own over =
-        let part : total + x ≡ loadTo es (f .factors) (f .divisor) (at (f .factors) (length es - 1)) (i + 1) = more es (f .factors) (f .divisor) _ _ total i s x e here own in
+        let part : total + x ≡ loadTo es ms d (at ms (length es - 1)) (i + 1) = more es ms d _ _ total i s x e here own in
         let rest : i + 1 + (length es - (i + 1)) ≡ length es = omega arith in
-        let less = sum-more (λ k. at es k * f .divisor * (at (f .factors) (length es - 1) / at (f .factors) k)) (i + 1) (length es - (i + 1)) in
-        let whole : w * at (f .factors) (length es - 1) < loadTo es (f .factors) (f .divisor) (at (f .factors) (length es - 1)) (length es) = omega (arith, rw rest at less, part) in
+        let less = sum-more (λ k. at es k * d * (at ms (length es - 1) / at ms k)) (i + 1) (length es - (i + 1)) in
+        let whole : w * at ms (length es - 1) < loadTo es ms d (at ms (length es - 1)) (length es) = omega (arith, rw rest at less, part) in
         rw (test-is, lt-ltb _ _ whole)

@@ -12,18 +12,18 @@ use borrow.Author.Tests.{le-leb, le-ltb, eq-eqb, not-true}
 use lib.ListN.{length, length-map}
 use lib.Dec.{leb, ltb, eqb}
 use Rattle.sheet.proofs.Ranges.{both}
-use Rattle.fit.specs.Lists.{numbers, sum, Each, EachPair, at}
+use Rattle.fit.specs.Lists.{numbers, sum, select, Each, EachPair, at}
 use Rattle.fit.specs.Priority.{Above}
 use Rattle.fit.specs.Fits.{stretched, Multiples, lastFactor, load, overloaded}
-use Rattle.fit.proofs.Lists.{each-append, each-both}
+use Rattle.fit.proofs.Lists.{each-append, each-both, each-select, selected-pass}
 use Rattle.figures.specs.declared.Outcome.{Outcome}
 use Rattle.figures.specs.Constructions.{Acceleration, leastPower, largestPower, sr, dct}
 use Rattle.figures.specs.Meaning.{Rising, Factors, Sound}
-use Rattle.figures.specs.Passing.{passes, first, eachPivot, trials, rising, taskSet, firstPassing}
+use Rattle.figures.specs.Passing.{passes, first, eachPivot, inRange, trials, rising, taskSet, firstPassing}
 use Rattle.figures.specs.Answers.{written, outcome}
 use Rattle.figures.proofs.Lists.{at-map, by-place, sum-by-place, last-by-place}
 use Rattle.figures.proofs.Powers.{least-unique, least-power}
-use Rattle.figures.proofs.Sound.{rising-test, factors-at, divisor-bound, factors-bound}
+use Rattle.figures.proofs.Sound.{rising-test, factors-length, factors-at, sound-wider, range-divisor, range-factors, two-in-range}
 use Rattle.figures.proofs.SrLaws.{sr-sound}
 use Rattle.figures.proofs.DctLaws.{dct-sound}
 
@@ -65,8 +65,8 @@ each-pivot P c ps f = from 0 (length ps) (λ i h. f i (omega (arith, zero-add (l
 -- tasks l on a core with pivot Q and divisor D keep rules 11 to 14
 pub record Accepted (p e M : ℕ → ℕ) (Q D : ℕ) (l : List ℕ) : Type 0 where
   pub pivot : (1 ≤ Q) × (Q ≤ 60000)
-  pub divisor : (1 ≤ D) × (D < 120000)
-  pub factors : Each (λ i. (1 ≤ M i) × (M i < 120000)) l
+  pub divisor : (1 ≤ D) × (D ≤ 120000)
+  pub factors : Each (λ i. (1 ≤ M i) × (M i ≤ 120000)) l
   pub accelerated : Each (λ i. stretched Q D (p i) (M i) ≡ false) l
   pub chained : Multiples M 1 l
   pub loaded : overloaded e M Q D l ≡ false
@@ -82,32 +82,45 @@ unfolding Factors Multiples
 factors-chain p M Q D d [] h = tt
 factors-chain p M Q D d (i ∷ l) h = (h .0 .multiple, factors-chain p M Q D (M i) l (h .1))
 
--- the first that passes is sound
-pub passing-sound : (ps es : List ℕ) (a : Acceleration) → firstPassing ps es ≡ some a → Rising 1 ps × Sound 2 ps a × (passes es a ≡ true)
-unfolding taskSet firstPassing trials
+-- every trial is sound and in range
+abbrev pub Good : List ℕ → Acceleration → Type 0
+Good ps a = Sound 3 ps a × (inRange a ≡ true)
+
+pub trials-good : (ps : List ℕ) → Rising 1 ps → Each (Good ps) (trials ps)
+unfolding trials
+trials-good ps r =
+    each-append (Good ps) (eachPivot (sr 2) ps) _ (each-pivot (Good ps) (sr 2) ps (λ i k. on-two (sr 2 ps i) (sr-sound 2 (le-refl 2) ps i r k)))
+    (each-append (Good ps) (select inRange (eachPivot (sr 3) ps)) (eachPivot dct ps)
+    (each-both _ (λ a x y. (x, y)) (each-select (Sound 3 ps) inRange _ (each-pivot (Sound 3 ps) (sr 3) ps (λ i k. sr-sound 3 (omega arith) ps i r k))) (selected-pass inRange _))
+    (each-pivot (Good ps) dct ps (λ i k. on-two (dct ps i) (dct-sound ps i r k))))
+  where
+    on-two : (a : Acceleration) → Sound 2 ps a → Good ps a
+    on-two a s = (sound-wider 2 3 ps a (omega arith) s, two-in-range ps a r s)
+
+-- so the first that passes is
+pub passing-sound : (ps es : List ℕ) (a : Acceleration) → firstPassing ps es ≡ some a → Rising 1 ps × Sound 3 ps a × (inRange a ≡ true) × (passes es a ≡ true)
+unfolding taskSet firstPassing
 passing-sound ps es a h = by (taskSet ps es) refl h
   where
-    by : (t : Bool) → taskSet ps es ≡ t → cond t (first es (trials ps)) none ≡ some a → Rising 1 ps × Sound 2 ps a × (passes es a ≡ true)
+    by : (t : Bool) → taskSet ps es ≡ t → cond t (first es (trials ps)) none ≡ some a → Rising 1 ps × Sound 3 ps a × (inRange a ≡ true) × (passes es a ≡ true)
     by true q g =
         let r : Rising 1 ps = rising-test 1 ps (both (leb (length ps) 64 && eqb (length ps) (length es)) (rising 1 ps) q .1) in
-        let by-sr : Each (Sound 2 ps) (eachPivot (sr 2) ps) = each-pivot (Sound 2 ps) (sr 2) ps (λ i k. sr-sound 2 (le-refl 2) ps i r k) in
-        let by-dct : Each (Sound 2 ps) (eachPivot dct ps) = each-pivot (Sound 2 ps) dct ps (λ i k. dct-sound ps i r k) in
-        let (sound, pass) = first-of (Sound 2 ps) es (trials ps) a (each-append (Sound 2 ps) (eachPivot (sr 2) ps) (eachPivot dct ps) by-sr by-dct) g in
-        (r, sound, pass)
+        let ((sound, range), pass) = first-of (Good ps) es (trials ps) a (trials-good ps r) g in
+        (r, sound, range, pass)
     by false q g = absurd (Option·none-ne-some a g)
 
 -- tasks l with periods p and budgets e, written with the first figures that pass, M the factor of each, keep rules 11 to 14
 pub passing-accepted : (p e M : ℕ → ℕ) (l : List ℕ) (a : Acceleration) → firstPassing (map p l) (map e l) ≡ some a → map M l ≡ a .factors → Accepted p e M (a .Q) (a .D) l
 unfolding stretched passes
 passing-accepted p e M l a h m =
-    let (r, s, pass) = passing-sound (map p l) (map e l) a h in
+    let (r, s, range, pass) = passing-sound (map p l) (map e l) a h in
     let f : Factors (a .Q) (a .D) 1 (map p l) (map M l) = rw m (s .factors) in
     record {
       pivot = s .pivot;
-      divisor = (s .divisor .0, divisor-bound 2 (map p l) a s);
+      divisor = (s .divisor .0, range-divisor a range);
       factors = each-place _ l (λ j k. (
         rw (at-map M l j k) at (factors-at (a .Q) (a .D) 1 (map p l) (map M l) f j (inside j k) .1),
-        rw (← m, at-map M l j k) at (factors-bound 2 (map p l) a r s j (inside j k)),
+        rw (← m, at-map M l j k) at (range-factors a range j (rw (factors-length (a .Q) (a .D) 1 (map p l) (a .factors) (s .factors)) (inside j k))),
       ));
       accelerated = each-place _ l (λ j k. le-ltb _ _ (rw (at-map M l j k, at-map p l j k) at (factors-at (a .Q) (a .D) 1 (map p l) (map M l) f j (inside j k) .0)));
       chained = factors-chain p M (a .Q) (a .D) 1 l f;

@@ -5,7 +5,7 @@ use mathlib.Core.Option.{Option, none, some}
 use mathlib.Core.List.{List, [], _∷_, _++_, map}
 use lib.ListN.{length}
 use lib.Dec.{leb, eqb}
-use Rattle.fit.specs.Lists.{numbers, at}
+use Rattle.fit.specs.Lists.{numbers, select, at}
 use Rattle.fit.specs.Fits.{overloaded}
 use Rattle.figures.specs.Constructions.{Acceleration, sr, dct}
 
@@ -22,9 +22,19 @@ first es (a ∷ l) = let later = first es l in cond (passes es a) (some a) later
 unfoldable pub eachPivot : (List ℕ → ℕ → Acceleration) → List ℕ → List Acceleration
 eachPivot construction ps = map (construction ps) (numbers 0 (length ps))
 
--- the trials in their order: Sr on base 2 with each task as pivot by priority, then DCT with each
+-- each of a list is at most b
+unfoldable pub atMost : ℕ → List ℕ → Bool
+atMost b [] = true
+atMost b (x ∷ l) = leb x b && atMost b l
+
+-- the divisor and each factor are at most 120,000
+unfoldable pub inRange : Acceleration → Bool
+inRange a = atMost 120000 (a .D ∷ a .factors)
+
+-- The trials in their order: Sr on base 2 with each task as pivot by priority, then Sr on base 3 with each, but a pivot whose divisor or one
+-- of whose factors is above 120,000 is skipped, then DCT with each.
 unfoldable pub trials : List ℕ → List Acceleration
-trials ps = eachPivot (sr 2) ps ++ eachPivot dct ps
+trials ps = eachPivot (sr 2) ps ++ (select inRange (eachPivot (sr 3) ps) ++ eachPivot dct ps)
 
 -- periods in priority order: none below the one before it, which is a before the first, and none above 60,000
 unfoldable pub rising : ℕ → List ℕ → Bool

@@ -6,11 +6,11 @@ ghost use mathlib.Core.Bool.{true};
 ghost use mathlib.Core.Option.{none as noneOf};
 ghost use mathlib.Core.List.{map};
 ghost use lib.ListN.{length, take};
-ghost use Rattle.fit.specs.Lists.{at, padded};
+ghost use Rattle.fit.specs.Lists.{select, at, padded};
 ghost use Rattle.fit.specs.Rounding.{ceiling};
 ghost use Rattle.figures.specs.Constructions.{Power, leastPower, largestPower, sr as srOf, down, downs, dct as dctOf};
-ghost use Rattle.figures.specs.Passing.{passes as passesOf, first, eachPivot, rising, taskSet, firstPassing};
-ghost use Rattle.figures.specs.Steps.{Ready, Usable, readBack, construction};
+ghost use Rattle.figures.specs.Passing.{passes as passesOf, first, eachPivot, inRange, rising, taskSet, firstPassing};
+ghost use Rattle.figures.specs.Steps.{Ready, Usable, readBack, construction, holds};
 ghost use Rattle.figures.specs.Answers.{written, outcome};
 
 // The pivot's period, the divisor, and the factors in priority order, then zeros.
@@ -27,7 +27,8 @@ pub struct Outcome {
 }
 
 enum Kind {
-    Sr,
+    Sr2,
+    Sr3,
     Dct,
 }
 
@@ -186,7 +187,7 @@ fn share(e: u64, d: u64, last: u32, m: u32) -> u64
 
 // Whether the load of tasks with these budgets is at most one.
 fn passes(f: CoreFigures, budgets: &[u16]) -> bool
-    requires { ⌜ Usable f (length (now budgets)) ⌝ }
+    requires { ⌜ Usable (f .divisor) (f .factors) (length (now budgets)) ⌝ }
     ensures { λ r. ⌜ r ≡ passesOf (now (budgets .entry)) (readBack f) ⌝ }
 {
     let n = budgets.len();
@@ -206,13 +207,56 @@ fn passes(f: CoreFigures, budgets: &[u16]) -> bool
     true
 }
 
+// Whether Sr on a base, with the task at place `pivot` as pivot, is in range and passes; no figure is stored.
+fn sr_holds(base: u64, periods: &[u16], budgets: &[u16], pivot: usize) -> bool
+    requires { ⌜ (2 ≤ base) × (base ≤ 3) × Ready (now periods) pivot × (length (now periods) ≡ length (now budgets)) ⌝ }
+    ensures { λ r. ⌜ r ≡ holds (now (budgets .entry)) (srOf base (now (periods .entry)) pivot) ⌝ }
+{
+    let n = periods.len();
+    let q = wide(periods[pivot]);
+    let d = least_power(base, q, wide(periods[0]));
+    let last = largest_power(base, q, wide(periods[n - 1]) * d, 1);
+    if 120_000 < d {
+        return false;
+    }
+    if 120_000 < last {
+        return false;
+    }
+    let limit = q * last;
+    let mut total = 0;
+    let mut power = 1;
+    let mut i = 0;
+    while i < n {
+        power = largest_power(base, q, wide(periods[i]) * d, power);
+        total += share(wide(budgets[i]), d, last as u32, power as u32);
+        if limit < total {
+            return false;
+        }
+        i += 1;
+    }
+    true
+}
+
+// Whether the construction of a kind, with the task at place `pivot` as pivot, is in range and passes.
+fn trial_holds(kind: Kind, periods: &[u16], budgets: &[u16], pivot: usize) -> bool
+    requires { ⌜ Ready (now periods) pivot × (length (now periods) ≡ length (now budgets)) ⌝ }
+    ensures { λ r. ⌜ r ≡ holds (now (budgets .entry)) (construction kind (now (periods .entry)) pivot) ⌝ }
+{
+    match kind {
+        Kind::Sr2 => sr_holds(2, periods, budgets, pivot),
+        Kind::Sr3 => sr_holds(3, periods, budgets, pivot),
+        Kind::Dct => passes(dct(periods, pivot), budgets),
+    }
+}
+
 // The construction of a kind with the task at place `pivot` as pivot.
 fn construct(kind: Kind, periods: &[u16], pivot: usize) -> CoreFigures
     requires { ⌜ Ready (now periods) pivot ⌝ }
     ensures { λ r. ⌜ r ≡ written (construction kind (now (periods .entry)) pivot) ⌝ }
 {
     match kind {
-        Kind::Sr => sr(2, periods, pivot),
+        Kind::Sr2 => sr(2, periods, pivot),
+        Kind::Sr3 => sr(3, periods, pivot),
         Kind::Dct => dct(periods, pivot),
     }
 }
@@ -230,18 +274,17 @@ fn nothing() -> Outcome
     }
 }
 
-// The first construction of a kind that passes, with each task as pivot by priority.
+// The first construction of a kind that is in range and passes, with each task as pivot by priority.
 fn round(kind: Kind, periods: &[u16], budgets: &[u16]) -> Outcome
     requires { ⌜ taskSet (now periods) (now budgets) ≡ true ⌝ }
-    ensures { λ r. ⌜ r ≡ outcome (first (now (budgets .entry)) (eachPivot (construction kind) (now (periods .entry)))) ⌝ }
+    ensures { λ r. ⌜ r ≡ outcome (first (now (budgets .entry)) (select inRange (eachPivot (construction kind) (now (periods .entry))))) ⌝ }
 {
     let mut i = 0;
     while i < periods.len() {
-        let f = construct(kind, periods, i);
-        if passes(f, budgets) {
+        if trial_holds(kind, periods, budgets, i) {
             return Outcome {
                 passes: true,
-                figures: f,
+                figures: construct(kind, periods, i),
             };
         }
         i += 1;
@@ -285,9 +328,13 @@ pub fn first_passing(periods: &[u16], budgets: &[u16]) -> Outcome
     ensures { λ r. ⌜ r ≡ outcome (firstPassing (now (periods .entry)) (now (budgets .entry))) ⌝ }
 {
     if is_task_set(periods, budgets) {
-        let by_sr = round(Kind::Sr, periods, budgets);
-        if by_sr.passes {
-            return by_sr;
+        let on_two = round(Kind::Sr2, periods, budgets);
+        if on_two.passes {
+            return on_two;
+        }
+        let on_three = round(Kind::Sr3, periods, budgets);
+        if on_three.passes {
+            return on_three;
         }
         return round(Kind::Dct, periods, budgets);
     }

@@ -76,6 +76,16 @@ module _ {A : Type 0} (P : A → Type 0) where
   each-take (suc k) [] h = tt
   each-take (suc k) (x ∷ l) h = (h .0, each-take k l (h .1))
 
+  -- those of a list that pass a test
+  pub each-select : (q : A → Bool) (l : List A) → Each P l → Each P (select q l)
+  unfolding Each select
+  each-select q [] h = tt
+  each-select q (x ∷ l) h = by (q x) (each-select q l (h .1))
+    where
+      by : (b : Bool) → Each P (select q l) → Each P (cond b (x ∷ select q l) (select q l))
+      by true r = (h .0, r)
+      by false r = r
+
   -- the one at a place
   pub each-at : (d : A) (l : List A) (i : ℕ) → i < length l → Each P l → P (getD l i d)
   unfolding Each
@@ -92,6 +102,22 @@ module _ {A : Type 0} (P : A → Type 0) where
   pub each-between : {l : List A} (xs : List A) (x : A) (ys : List A) → l ≡ xs ++ x ∷ ys → Each P l → P x
   unfolding Each
   each-between xs x ys e h = each-halves xs (x ∷ ys) (subst (Each P) e h) .1 .0
+
+-- each that is selected passes, and where each passes all are selected
+module _ {A : Type 0} (q : A → Bool) where
+  pub selected-pass : (l : List A) → Each (λ x. q x ≡ true) (select q l)
+  unfolding Each select
+  selected-pass [] = tt
+  selected-pass (x ∷ l) = by (q x) refl (selected-pass l)
+    where
+      by : (b : Bool) → q x ≡ b → Each (λ x. q x ≡ true) (select q l) → Each (λ x. q x ≡ true) (cond b (x ∷ select q l) (select q l))
+      by true e r = (e, r)
+      by false e r = r
+
+  pub select-all : (l : List A) → Each (λ x. q x ≡ true) l → select q l ≡ l
+  unfolding Each select
+  select-all [] h = refl
+  select-all (x ∷ l) h = rw (h .0) (ap (λ (t : List A). x ∷ t) (select-all l (h .1)))
 
 -- what follows for two from their own properties and from a relation, or from two relations, follows for each pair
 pub pairs-of : {A : Type 0} {P : A → Type 0} {R S : A → A → Type 0} (l : List A) → ((x y : A) → P x → P y → R x y → S x y) → Each P l → EachPair R l → EachPair S l

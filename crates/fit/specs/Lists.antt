@@ -45,9 +45,9 @@ sum f [] = 0
 sum f (i ∷ l) = f i + sum f l
 
 -- those of a list that pass a test
-unfoldable pub select : (ℕ → Bool) → List ℕ → List ℕ
+unfoldable pub select : {A : Type 0} → (A → Bool) → List A → List A
 select q [] = []
-select q (i ∷ l) = cond (q i) (i ∷ select q l) (select q l)
+select q (x ∷ l) = cond (q x) (x ∷ select q l) (select q l)
 
 -- the lists that f gives for each of a list, one after the other
 unfoldable pub joined : (ℕ → List ℕ) → List ℕ → List ℕ

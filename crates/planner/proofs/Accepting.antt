@@ -113,8 +113,8 @@ module _ (p e : ℕ → ℕ) (n limit : ℕ) (a : Assignment) (small : limit ≤
     fits-plain = fits p e M (each-of (on k) (λ i m. (refl, refl, refl)) (on-members k))
 
   -- every factor is in range
-  factor-range : (i : ℕ) → i < n → (1 ≤ M i) × (M i < 120000)
-  factor-range i h = each-occurs (λ i. (1 ≤ M i) × (M i < 120000)) i (on (at (a .core) i)) (on-holds i h) (fits-plain (at (a .core) i) (placed i h) .factors)
+  factor-range : (i : ℕ) → i < n → (1 ≤ M i) × (M i ≤ 120000)
+  factor-range i h = each-occurs (λ i. (1 ≤ M i) × (M i ≤ 120000)) i (on (at (a .core) i)) (on-holds i h) (fits-plain (at (a .core) i) (placed i h) .factors)
 
   -- the sheet and its parts
   task : ℕ → List ℕ
@@ -214,9 +214,9 @@ module _ (p e : ℕ → ℕ) (n limit : ℕ) (a : Assignment) (small : limit ≤
         cores =
             record {
               not-bare = λ k h. let (i, b, c) = settled .not-bare k h in (i, b, f-core i b ∙ c);
-              factor = λ i h. rw (f-factor i h) (factor-range i h .0, omega (arith, factor-range i h .1));
+              factor = λ i h. rw (f-factor i h) (factor-range i h);
               pivot = λ k h. rw (f-pivot k h) (fits-plain k h .pivot);
-              divisor = λ k h. rw (f-divisor k h) (fits-plain k h .divisor .0, omega (arith, fits-plain k h .divisor .1));
+              divisor = λ k h. rw (f-divisor k h) (fits-plain k h .divisor);
               accelerated = λ i h. fast i h;
             };
         fits =

@@ -1,6 +1,6 @@
 -- The written sheet read back: its fields are those of the list, the assignment and the figures.
 -- Assumes nothing.
-use Prim.Native.Nat.{ℕ, zero, suc, _+_, _*_, _<_}
+use Prim.Native.Nat.{ℕ, zero, suc, _+_, _*_, _≤_, _<_}
 use mathlib.Core.Path.{_≡_, ap₂, _∙_}
 use mathlib.Core.List.{List, _++_, append-assoc}
 use native.Mathlib.Nat.{mul-suc}
@@ -49,7 +49,7 @@ module _ (p e k m : ℕ) where
   unfolding word taskRecord two four
   task-budget h = omega arith
 
-  pub task-factor : m < 120000 → long (taskRecord p e k m) 6 ≡ m
+  pub task-factor : m ≤ 120000 → long (taskRecord p e k m) 6 ≡ m
   unfolding long word taskRecord two four
   task-factor h = omega arith
 
@@ -57,6 +57,6 @@ pub core-pivot : (q d : ℕ) → q < 65536 → word (coreRecord q d) 0 ≡ q
 unfolding word coreRecord two four
 core-pivot q d h = omega arith
 
-pub core-divisor : (q d : ℕ) → d < 120000 → long (coreRecord q d) 4 ≡ d
+pub core-divisor : (q d : ℕ) → d ≤ 120000 → long (coreRecord q d) 4 ≡ d
 unfolding long word coreRecord two four
 core-divisor q d h = omega arith

@@ -1,5 +1,5 @@
 use borrow.Author.Needs.{needs}
-use Rattle.figures.proofs.Rounds.{set-holds, by-sr, by-dct, by-none}
+use Rattle.figures.proofs.Rounds.{set-holds, by-two, by-three, by-dct, by-none}
 use Rattle.figures.proofs.first_passing.Statement.{statement}
 use Rattle.figures.proofs.first_passing.Tie as tie
 use Rattle.figures.proofs.first_passing.Reads as reads
@@ -15,19 +15,25 @@ round-requires : tie.Need-round-requires
 round-requires c κs = search (set-holds, needs)
 
 returns : tie.Need-returns
-returns c = search (by-sr, needs)
+returns c = search (by-two, needs)
 
 round-requires-2 : tie.Need-round-requires-2
 round-requires-2 c κs = search (set-holds, needs)
 
 returns-2 : tie.Need-returns-2
-returns-2 c = search (by-dct, needs)
+returns-2 c = search (by-three, needs)
+
+round-requires-3 : tie.Need-round-requires-3
+round-requires-3 c κs = search (set-holds, needs)
+
+returns-3 : tie.Need-returns-3
+returns-3 c = search (by-dct, needs)
 
 nothing-requires : tie.Need-nothing-requires
 nothing-requires c κs = search needs
 
-returns-3 : tie.Need-returns-3
-returns-3 c = search (by-none, needs)
+returns-4 : tie.Need-returns-4
+returns-4 c = search (by-none, needs)
 
 pub first-passing-spec : {M : Type 1} → statement M
 first-passing-spec =
@@ -38,5 +44,7 @@ first-passing-spec =
     returns
     round-requires-2
     returns-2
+    round-requires-3
+    returns-3
     nothing-requires
-    returns-3)
+    returns-4)

@@ -1,14 +1,14 @@
 use borrow.Author.Needs.{needs}
 use Prim.Native.Nat.{_≤_, _-_}
 use lib.ListN.{length}
-use Rattle.figures.proofs.Rounds.{RoundLoop, round-ready, round-usable, round-start, round-hit, round-turn, round-end}
+use Rattle.figures.proofs.Rounds.{RoundLoop, even, round-ready, round-start, round-hit, round-turn, round-end}
 use Rattle.figures.proofs.round.Statement.{statement}
 use Rattle.figures.proofs.round.Tie as tie
 use Rattle.figures.proofs.round.Reads as reads
 use Rattle.figures.proofs.round.Lts as lts
 use Rattle.figures.proofs.construct.Reads as construct-reads
 use Rattle.figures.proofs.nothing.Reads as nothing-reads
-use Rattle.figures.proofs.passes.Reads as passes-reads
+use Rattle.figures.proofs.trial_holds.Reads as trial-holds-reads
 
 abbrev Inv-loop : tie.InvT-loop
 Inv-loop kind periods budgets i₀ i = (i ≤ length periods) × RoundLoop kind periods budgets i
@@ -19,11 +19,11 @@ abbrev μ-loop : tie.MeasureT-loop
 loop-holds : tie.Need-loop-holds Inv-loop μ-loop
 loop-holds c = search (round-start, needs)
 
+trial-holds-requires : tie.Need-trial-holds-requires Inv-loop μ-loop
+trial-holds-requires c κs = (search (round-ready, needs), search (even, needs))
+
 construct-requires : tie.Need-construct-requires Inv-loop μ-loop
 construct-requires c κs = search (round-ready, needs)
-
-passes-requires : tie.Need-passes-requires Inv-loop μ-loop
-passes-requires c κs = search (round-usable, needs)
 
 returns : tie.Need-returns Inv-loop μ-loop
 returns c = search (round-hit, needs)
@@ -50,8 +50,8 @@ round-spec =
     Inv-loop
     μ-loop
     loop-holds
+    trial-holds-requires
     construct-requires
-    passes-requires
     returns
     add-i
     loop-less

@@ -2,7 +2,9 @@ use borrow.Author.Needs.{needs}
 use Prim.Native.Nat.{_-_, _≤_}
 use lib.ListN.{length}
 use Rattle.figures.proofs.Ranges.{ranges}
-use Rattle.figures.proofs.SrLoop.{SrLoop, sr-start, divisor-fits, pivot-positive, limit-small, limit-fits, power-fits, factor-fits, sr-turn, sr-end}
+use Rattle.figures.specs.Constructions.{sr}
+use Rattle.figures.proofs.Filling.{Filled, filled-start}
+use Rattle.figures.proofs.SrLoop.{SrLoop, sr-start, divisor-fits, pivot-positive, limit-small, limit-fits, power-fits, factor-fits, sr-turn, store-turn, store-end}
 use Rattle.figures.proofs.sr.Statement.{statement}
 use Rattle.figures.proofs.sr.Tie as tie
 use Rattle.figures.proofs.sr.Reads as reads
@@ -12,7 +14,7 @@ use Rattle.figures.proofs.least_power.Reads as least-power-reads
 use Rattle.figures.proofs.wide.Reads as wide-reads
 
 abbrev Inv-loop : tie.InvT-loop
-Inv-loop base periods pivot q d factors₀ power₀ i₀ factors power i = (i ≤ length periods) × SrLoop base periods pivot q d factors power i
+Inv-loop base periods pivot q d factors₀ power₀ i₀ factors power i = (i ≤ length periods) × SrLoop base periods pivot q d power i × Filled (sr base periods pivot .factors) i factors
 
 abbrev μ-loop : tie.MeasureT-loop
 μ-loop base periods pivot q d factors₀ power₀ i₀ factors power i = length periods - i
@@ -36,7 +38,7 @@ least-power-requires : tie.Need-least-power-requires Inv-loop μ-loop
 least-power-requires c κs = search (ranges, needs)
 
 loop-holds : tie.Need-loop-holds Inv-loop μ-loop
-loop-holds c = search (sr-start, needs)
+loop-holds c = (search needs, search (sr-start, needs), filled-start _)
 
 mul-wide-2 : tie.Need-mul-wide-2 Inv-loop μ-loop
 mul-wide-2 c = search needs
@@ -70,7 +72,13 @@ loop-less : tie.Need-loop-less Inv-loop μ-loop
 loop-less c = search needs
 
 loop-again : tie.Need-loop-again Inv-loop μ-loop
-loop-again c = (search needs, sr-turn _ _ _ _ _ _ _ _ (c .before .before .before .before .loop .inv .1) _ (c .before .before .before .loop-test .taken) (c .before .wide3 .ensures .0) _ (c .largest-power .ensures))
+loop-again c =
+    let s = c .before .before .before .before .loop .inv .1 in
+    let h = c .before .before .before .loop-test .taken in (
+      search needs,
+      sr-turn _ _ _ _ _ _ _ s _ h (c .before .wide3 .ensures .0) _ (c .largest-power .ensures),
+      store-turn _ _ _ _ _ _ _ s _ h (c .before .wide3 .ensures .0) _ (c .largest-power .ensures) _ (c .before .before .before .before .loop .inv .2),
+    )
 
 mul-t9 : tie.Need-mul-t9 Inv-loop μ-loop
 mul-t9 c = search needs
@@ -82,7 +90,7 @@ cast-t24 : tie.Need-cast-t24 Inv-loop μ-loop
 cast-t24 c = search (divisor-fits, needs)
 
 returns : tie.Need-returns Inv-loop μ-loop
-returns c = search (sr-end, needs)
+returns c = search (store-end, needs)
 
 pub sr-spec : {M : Type 1} → statement M
 sr-spec =

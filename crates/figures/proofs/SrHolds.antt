@@ -1,0 +1,128 @@
+-- Whether Sr is in range and passes, step by step as the code goes.
+-- Assumes nothing.
+use Prim.Native.Nat.{ℕ, _+_, _-_, _*_, _/_, _≤_, _<_, zero-le}
+use mathlib.Core.Path.{_≡_, refl, sym, ap, _∙_}
+use mathlib.Core.Bool.{Bool, true, false, _&&_, and-false}
+use mathlib.Core.List.{List, _∷_}
+use native.Mathlib.Nat.{pow-zero, mul-le-mul, le-refl, le-trans}
+use native.Mathlib.Omega.{arith}
+use borrow.Author.Tests.{lt-leb}
+use lib.ListN.{length}
+use lib.Dec.{leb}
+use mir.Syntax.{w32, w64}
+use mir.Val.{Fits}
+use Rattle.fit.specs.Lists.{at}
+use Rattle.figures.specs.Constructions.{Acceleration, Power, leastPower, largestPower, sr}
+use Rattle.figures.specs.Meaning.{Sound}
+use Rattle.figures.specs.Passing.{passes, inRange}
+use Rattle.figures.specs.Steps.{Ready, Usable, holds}
+use Rattle.figures.proofs.Sound.{factors-length, factors-at, factors-rise, in-range, range-divisor, range-factors}
+use Rattle.figures.proofs.Ranges.{pivot-high}
+use Rattle.figures.proofs.LoadLoop.{LoadLoop, load-start, load-turn, load-over, load-end}
+use Rattle.figures.proofs.SrLoop.{SrLoop, sr-start, whole, limit-small-from, power-fits-from, factor-from, factor-is}
+
+-- what is out of range does not hold
+out-of-range : (es : List ℕ) (a : Acceleration) → (inRange a ≡ true → ⊥) → false ≡ holds es a
+unfolding holds
+out-of-range es a h = by (inRange a) refl
+  where
+    by : (t : Bool) → inRange a ≡ t → false ≡ (t && passes es a)
+    by true e = absurd (h e)
+    by false e = refl
+
+-- the load so far, of factors that are in range
+pub record SrLoad (b : ℕ) (ps es : List ℕ) (c q d L limit total i : ℕ) : Type 0 where
+  pub same : length ps ≡ length es
+  pub last : L ≡ at (sr b ps c .factors) (length es - 1)
+  pub full : limit ≡ q * at (sr b ps c .factors) (length es - 1)
+  pub range : inRange (sr b ps c) ≡ true
+  pub usable : Usable d (sr b ps c .factors) (length es)
+  pub load : LoadLoop es (sr b ps c .factors) d (at (sr b ps c .factors) (length es - 1)) limit total i
+
+-- the code's first power, and its limit
+pub one-power : (b : ℕ) → Power b 1
+unfolding Power
+one-power b = (0, sym (pow-zero b))
+
+pub full-fits : (q L : ℕ) → q < 65536 → L ≤ 120000 → Fits w64 (q * L)
+full-fits q L h k = let m : q * L ≤ 7864200000 = mul-le-mul {n₂ = 65535} {m₂ = 120000} (omega arith) k in record { fits = omega arith }
+
+module _ (b : ℕ) (ps es : List ℕ) (c q x d : ℕ) (two : 2 ≤ b) (three : b ≤ 3) (r : Ready ps c) (n : length ps ≡ length es) (e : q ≡ at ps c) (f : x ≡ at ps 0) (g : d ≡ leastPower b q x) where
+  begin : SrLoop b ps c q d 1 0
+  begin = sr-start b ps c two three r q x d e f g
+
+  not-empty : 0 < length ps
+  not-empty = omega (arith, r .inside)
+
+  -- the last factor, sought from 1
+  module _ (y : ℕ) (z : y ≡ at ps (length ps - 1)) where
+    pub last-small : y * d ≤ 10800000000
+    last-small = limit-small-from b ps c q d 1 0 begin (length ps - 1) zero-le y (omega (arith, not-empty)) z
+
+    pub last-product : Fits w64 (y * d)
+    last-product = record { fits = omega (arith, last-small) }
+
+    pub last-fits : q * 1 ≤ y * d
+    last-fits = power-fits-from b ps c q d 1 0 begin (length ps - 1) zero-le y (omega (arith, not-empty)) z
+
+    module _ (L : ℕ) (k : L ≡ largestPower b q (y * d)) where
+      last-is : L ≡ at (sr b ps c .factors) (length ps - 1)
+      last-is = factor-from b ps c q d 1 0 begin (length ps - 1) zero-le y (omega (arith, not-empty)) z L k
+
+      size : length (sr b ps c .factors) ≡ length ps
+      size = factors-length _ _ 1 ps _ (whole b ps c q d 1 0 begin .factors)
+
+      -- a pivot with a figure above 120,000 is skipped
+      pub skip-divisor : 120000 < d → false ≡ holds es (sr b ps c)
+      skip-divisor h = out-of-range es (sr b ps c) (λ r. let most : d ≤ 120000 = rw (begin .divisor) (range-divisor (sr b ps c) r) in omega arith)
+
+      pub skip-last : 120000 < L → false ≡ holds es (sr b ps c)
+      skip-last h =
+          out-of-range es (sr b ps c)
+          (λ r. let most : L ≤ 120000 = rw last-is (range-factors (sr b ps c) r (length ps - 1) (rw size (omega (arith, not-empty)))) in omega arith)
+
+      pub load-begin : d ≤ 120000 → L ≤ 120000 → SrLoad b ps es c q d L (q * L) 0 0
+      load-begin h k =
+          let s : Sound b ps (sr b ps c) = whole b ps c q d 1 0 begin in
+          let high : (i : ℕ) → i < length ps → at (sr b ps c .factors) i ≤ 120000 = λ i j. le-trans (rw last-is (factors-rise _ _ 1 ps _ (s .factors) i (length ps - 1) (omega arith) (omega arith))) k in
+          let here : L ≡ at (sr b ps c .factors) (length es - 1) = rw n at last-is in
+          let u : Usable d (sr b ps c .factors) (length es) = record { some = omega arith; few = rw n at (r .size); divisor = h; factors = λ i j. (factors-at _ _ 1 ps _ (s .factors) i (rw n j) .1, high i (rw n j)) } in
+          record {
+            same = n;
+            last = here;
+            full = ap (λ t. q * t) here;
+            range = in-range (sr b ps c) (rw (begin .divisor) at h) (λ i j. high i (rw size at j));
+            usable = u;
+            load = rw here (load-start es (sr b ps c .factors) d u q (omega (arith, pivot-high ps c r q e)));
+          }
+
+module _ (b : ℕ) (ps es : List ℕ) (c q d L limit total m i : ℕ) (s : SrLoop b ps c q d m i) (l : SrLoad b ps es c q d L limit total i) where
+  pub last-most : L ≤ 120000
+  last-most = rw (l .last) (l .load .high)
+
+  pub last-cast : Fits w32 L
+  last-cast = record { fits = omega (arith, last-most) }
+
+  pub place-inside : i < length ps → i < length es
+  place-inside h = rw (← l .same) h
+
+  passing : passes es (record { Q = sr b ps c .Q; D = d; factors = sr b ps c .factors }) ≡ holds es (sr b ps c)
+  unfolding holds
+  passing = rw (l .range, s .divisor)
+
+  pub load-done : i ≤ length ps → length ps ≤ i → true ≡ holds es (sr b ps c)
+  load-done h k = load-end es (sr b ps c .factors) d (l .usable) q (sr b ps c .Q) (s .pivot) total i (rw (← l .full) (l .load)) (rw (← l .same) h) (rw (← l .same) k) ∙ passing
+
+  module _ (x : ℕ) (h : i < length ps) (e : x ≡ at ps i) (v : ℕ) (g : v ≡ largestPower b q (x * d)) where
+    pub factor-low : 1 ≤ v
+    factor-low = rw (factor-is b ps c q d m i s x h e v g) (l .usable .factors i (place-inside h) .0)
+
+    module _ (y t : ℕ) (k : y ≡ at es i) (own : t ≡ y * d * (L / v)) where
+      part : t ≡ y * d * (at (sr b ps c .factors) (length es - 1) / at (sr b ps c .factors) i)
+      part = rw (← l .last, ← factor-is b ps c q d m i s x h e v g) own
+
+      pub load-on : total + t ≤ limit → SrLoad b ps es c q d L limit (total + t) (i + 1)
+      load-on z = record { same = l .same; last = l .last; full = l .full; range = l .range; usable = l .usable; load = load-turn es (sr b ps c .factors) d _ limit total i (l .load) t y k part z }
+
+      pub load-broken : limit < total + t → false ≡ holds es (sr b ps c)
+      load-broken z = load-over es (sr b ps c .factors) d (l .usable) q (sr b ps c .Q) (s .pivot) total i (rw (← l .full) (l .load)) t y (place-inside h) k part (rw (l .full) at z) ∙ passing
