@@ -13,3 +13,4 @@ pub mod DctLoops
 pub mod LoadLoop
 pub mod Rounds
 pub mod SrHolds
+pub mod Skips

@@ -68,7 +68,7 @@ module _ (es ms : List ℕ) (d L limit total i : ℕ) (s : LoadLoop es ms d L li
     load-turn h = record { divisor = s .divisor; high = s .high; bound = s .bound; light = h; same = more }
 
 -- the factor at the last place
-last-place : (M : ℕ → ℕ) (d k n : ℕ) → lastFactor M d (numbers k (suc n)) ≡ M (k + n)
+pub last-place : (M : ℕ → ℕ) (d k n : ℕ) → lastFactor M d (numbers k (suc n)) ≡ M (k + n)
 unfolding lastFactor numbers
 last-place M d k zero = ap M (sym (add-zero k))
 last-place M d k (suc n) = last-place M (M k) (suc k) n ∙ ap M (suc-add k n ∙ sym (add-suc k n))

@@ -4,7 +4,7 @@
 use Prim.Native.Nat.{ℕ, zero, suc, _+_, _-_, _*_, _^_, _≤_, _<_, zero-le}
 use mathlib.Core.Path.{_≡_, refl, sym, ap, _∙_}
 use mathlib.Core.List.{List, [], _∷_, map}
-use native.Mathlib.Nat.{mul-one, one-mul, mul-comm, mul-assoc, mul-right-comm, pow-zero, pow-suc, mul-le-mul, mul-le-mul-left, mul-le-mul-right, mul-lt-mul-of-pos-left, le-of-mul-le-mul-right, le-trans, le-refl, add-sub-of-le}
+use native.Mathlib.Nat.{mul-one, one-mul, mul-comm, mul-assoc, mul-left-comm, mul-right-comm, pow-zero, pow-suc, mul-le-mul, mul-le-mul-left, mul-le-mul-right, mul-lt-mul-of-pos-left, le-of-mul-le-mul-right, lt-of-mul-lt-mul-left, le-trans, le-refl, add-sub-of-le}
 use native.Mathlib.Decide.{decLe}
 use native.Mathlib.Omega.{arith}
 use lib.ListN.{length}
@@ -15,7 +15,7 @@ use Rattle.figures.specs.Constructions.{Power, leastPower, largestPower,
 use Rattle.figures.specs.Meaning.{Rising, Multiplier, Factors, Sound}
 use Rattle.figures.proofs.Powers.{Least, Largest, least-power, largest-power, power-positive, power-mono}
 use Rattle.figures.proofs.Lists.{at-map}
-use Rattle.figures.proofs.Sound.{rising-at, rising-pair}
+use Rattle.figures.proofs.Sound.{rising-at, rising-pair, factors-at}
 
 module _ (b : ℕ) (two : 2 ≤ b) where
   -- a larger power is a multiple of a smaller one
@@ -43,20 +43,18 @@ module _ (b : ℕ) (two : 2 ≤ b) where
       by (yes r) = absurd (omega (arith, h .least k r))
       by (no r) = omega arith
 
-  -- the divisor is below b × q
-  divisor-below : (q p m : ℕ) → 0 < q → 0 < p → Least b q p m → m < b * q
-  divisor-below q p m posq posp h = by (h .exponent) refl
+  -- p × the divisor is below b × q
+  divisor-below : (q p m : ℕ) → 0 < q → p ≤ q → Least b q p m → p * m < b * q
+  divisor-below q p m pos le h = by (h .exponent) refl
     where
-      by : (k : ℕ) → h .exponent ≡ k → m < b * q
+      by : (k : ℕ) → h .exponent ≡ k → p * m < b * q
       by zero e =
           let one : m ≡ 1 = h .power ∙ ap (λ (x : ℕ). b ^ x) e ∙ pow-zero b in
-          let low : 2 * 1 ≤ b * q = mul-le-mul two posq in
-          omega arith
+          let low : 2 * q ≤ b * q = mul-le-mul-right q two in
+          rw (one, mul-one p) (omega arith)
       by (suc k) e =
           let m-is : m ≡ b * b ^ k = h .power ∙ ap (λ (x : ℕ). b ^ x) e ∙ pow-suc b k ∙ mul-comm (b ^ k) b in
-          let low : 1 * b ^ k ≤ p * b ^ k = mul-le-mul-right (b ^ k) posp in
-          let less : b ^ k < q = omega (arith, least-before q p m k h e, one-mul (b ^ k)) in
-          rw m-is (mul-lt-mul-of-pos-left less (omega arith))
+          rw (m-is, mul-left-comm p b (b ^ k)) (mul-lt-mul-of-pos-left (least-before q p m k h e) (omega arith))
 
   -- the first factor is 1 where the pivot's period is no shorter than the first
   first-one : (q p m : ℕ) → 0 < q → 0 < p → p ≤ q → (d : Least b q p m) → largestPower b q (p * m) ≡ 1
@@ -89,13 +87,32 @@ module _ (b : ℕ) (two : 2 ≤ b) where
       let d : Least b q p (leastPower b q p) = least-power b two q p (r .0) in
       let D : ℕ = leastPower b q p in
       let start : q * b ^ 0 ≤ p * D = rw (pow-zero b, mul-one q) (d .reaches) in
+      let reach : 1 * D ≤ p * D = mul-le-mul-right D (r .0) in
+      let below : D < b * q = omega (arith, divisor-below q p D pos low d) in
       record {
         pivot = (pos, high);
-        divisor = (rw (d .power) (power-positive b two (d .exponent)), divisor-below q p D pos (r .0) d);
+        divisor = (rw (d .power) (power-positive b two (d .exponent)), below);
         one = first-one q p D pos (r .0) low d;
         factors = rw (pow-zero b) at (sr-factors q D p 0 (p ∷ ps) pos (le-refl p, r .1, r .2) start);
       }
   sr-sound [] i r h = absurd (omega arith)
+
+  -- the first period times the divisor is below b × Q, and times a factor below b × the factor's own period
+  pub sr-first : (ps : List ℕ) (i : ℕ) → Rising 1 ps → i < length ps → at ps 0 * sr b ps i .D < b * sr b ps i .Q
+  unfolding sr
+  sr-first ps i r h = divisor-below (at ps i) (at ps 0) _ (rising-at 1 ps r i h .0) (rising-pair 1 ps r 0 i zero-le h) (least-power b two (at ps i) (at ps 0) (rising-at 1 ps r 0 (omega arith) .0))
+
+  pub sr-first-factor : (ps : List ℕ) (i : ℕ) → Rising 1 ps → i < length ps → (k : ℕ) → k < length ps → at ps 0 * at (sr b ps i .factors) k < b * at ps k
+  sr-first-factor ps i r h k g =
+      let Q : ℕ = sr b ps i .Q in
+      let D : ℕ = sr b ps i .D in
+      let M : ℕ = at (sr b ps i .factors) k in
+      let p : ℕ = at ps k in
+      let x : ℕ = at ps 0 in
+      let s : Sound b ps (sr b ps i) = sr-sound ps i r h in
+      let fit : x * (Q * M) ≤ x * (p * D) = mul-le-mul-left x (factors-at Q D 1 ps _ (s .factors) k g .0) in
+      let less : p * (x * D) < p * (b * Q) = mul-lt-mul-of-pos-left (sr-first ps i r h) (rising-at 1 ps r k g .0) in
+      lt-of-mul-lt-mul-left Q (omega (arith, fit, less, mul-left-comm x Q M, mul-left-comm x p D, mul-left-comm p b Q, mul-left-comm Q b p, mul-comm p Q))
 
   multiplier : (q p x D M : ℕ) → Least b q x D → Largest b q (p * D) M → Multiplier b q p M D
   unfolding Power
