@@ -105,7 +105,7 @@ module _ (ps es : List ℕ) (set : taskSet ps es ≡ true) where
       let (x, y) = both (leb (length ps) 64 && eqb (length ps) (length es)) _ set in
       record { size = leb-true (length ps) 64 (both (leb (length ps) 64) _ x .0); order = y; inside = h }
 
-  set-rising : (i : ℕ) → i < length ps → Rising 1 ps
+  pub set-rising : (i : ℕ) → i < length ps → Rising 1 ps
   set-rising i h = periods ps i (round-ready i h)
 
   -- on base 2 and by DCT no pivot is skipped

@@ -14,12 +14,13 @@ use Rattle.fit.specs.Lists.{numbers, sum, select, Each, at}
 use Rattle.fit.specs.Fits.{lastFactor, load, overloaded}
 use Rattle.figures.specs.Constructions.{Acceleration, Power, sr, dct}
 use Rattle.figures.specs.Meaning.{Rising, Sound}
-use Rattle.figures.specs.Passing.{passes, first, eachPivot, inRange, trials}
+use Rattle.figures.specs.Passing.{passes, first, eachPivot, inRange, trials, taskSet}
 use Rattle.figures.proofs.Powers.{power-mono}
 use Rattle.figures.proofs.Sound.{rising-at, rising-pair, factors-length, factors-at, divisor-bound, factors-bound, in-range}
 use Rattle.figures.proofs.SrLaws.{sr-sound, sr-first, sr-first-factor, sr-multiplier}
 use Rattle.figures.proofs.LoadLoop.{last-place}
 use Rattle.figures.proofs.Passing.{each-pivot}
+use Rattle.figures.proofs.Rounds.{even, set-rising}
 
 -- the only power of three from 120,000 to 180,000
 power-of-three : (m : ℕ) → Power 3 m → 120000 < m → m < 180000 → m ≡ 177147
@@ -115,9 +116,12 @@ module _ (es : List ℕ) where
       by false e g = rw (h .0 e) g
 
 -- with budgets of at least 1 the skip changes no answer
-pub skip-unseen : (ps es : List ℕ) → Rising 1 ps → length ps ≡ length es → Each (λ e. 1 ≤ e) es → first es (trials ps) ≡ first es (eachPivot (sr 2) ps ++ (eachPivot (sr 3) ps ++ eachPivot dct ps))
+pub skip-unseen : (ps es : List ℕ) → taskSet ps es ≡ true → Each (λ e. 1 ≤ e) es → first es (trials ps) ≡ first es (eachPivot (sr 2) ps ++ (eachPivot (sr 3) ps ++ eachPivot dct ps))
 unfolding trials
-skip-unseen ps es r n h =
+skip-unseen ps es set h =
     first-rest es (eachPivot (sr 2) ps) _ _
     (first-all es (eachPivot (sr 3) ps) (eachPivot dct ps)
-    (each-pivot (λ a. inRange a ≡ false → passes es a ≡ false) (sr 3) ps (λ i k out. skipped-fails 3 ps es (sr 3 ps i) r (sr-sound 3 (omega arith) ps i r k) (omega arith) n h out)))
+    (each-pivot (λ a. inRange a ≡ false → passes es a ≡ false) (sr 3) ps (λ i k out. fails i k (set-rising ps es set i k) out)))
+  where
+    fails : (i : ℕ) → i < length ps → Rising 1 ps → inRange (sr 3 ps i) ≡ false → passes es (sr 3 ps i) ≡ false
+    fails i k r out = skipped-fails 3 ps es (sr 3 ps i) r (sr-sound 3 (omega arith) ps i r k) (omega arith) (even ps es set) h out
