@@ -138,8 +138,10 @@ lines 64 '8 1' | $plan > "$room/longest"
 try 'list of the longest sheet' 0 "$longest\n" '' $list < "$room/longest"
 try 'list of 713 bytes' 0 'refused 5 place 0\n' '' $list < <(cat "$room/longest"; printf '\0')
 
-# plan: sheets. Card I's is pivot 9, divisor 2, factors 1 and 2.
+# plan: sheets. Card I's is pivot 9, divisor 2, factors 1 and 2; that of the jobs in thirds is pivot 2, divisor 1, factors 1, 9 and 27.
 try 'plan of card I' 0 'TSH\1\0\2\1\0\5\0\1\0\0\0\1\0\0\0\11\0\7\0\0\0\2\0\0\0\11\0\0\0\2\0\0\0' '' $plan 1 0 < examples/full-core.jobs
+try 'plan of jobs in thirds' 0 'TSH\1\0\3\1\0\2\0\1\0\0\0\1\0\0\0\24\0\2\0\0\0\11\0\0\0\67\0\24\0\0\0\33\0\0\0\2\0\0\0\1\0\0\0' '' \
+    $plan 1 0 < <(printf '2 1\n20 2\n55 20\n')
 try 'plan of a comment' 0 'TSH\1\0\0\0\0' '' $plan < <(echo '# no job')
 try 'plan of nothing' 0 'TSH\1\0\0\0\0' '' $plan 0 0 < /dev/null
 

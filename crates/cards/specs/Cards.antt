@@ -1,8 +1,9 @@
--- The bench cards A to Q, small inputs each with what it must give, and the listings of B, C and P, as one table about the definitions
--- (docs/SHEET.md, sections 4 to 8). N to Q are our own, worked out by hand from sections 3 to 5 and 8.
+-- The bench cards A to U, small inputs each with what it must give, and the listings of B, C and P, as one table about the definitions
+-- (docs/SHEET.md, sections 4 to 8). N to Q, S and U are our own, worked out by hand from sections 3 to 5 and 8.
 use Prim.Native.Nat.{ℕ, _/_, _%_}
 use Prim.Native.String.{String}
 use mathlib.Core.Path.{_≡_}
+use mathlib.Core.Bool.{true}
 use mathlib.Core.List.{List, [], _∷_, _++_, map}
 use Rattle.sheet.specs.Table.{scan}
 use Rattle.sheet.specs.Records.{Figures, figures}
@@ -13,7 +14,8 @@ use Rattle.fit.specs.Cores.{withinOn}
 use Rattle.checker.specs.Verdict.{verdict}
 use Rattle.checker.specs.Verdict as checker
 use Rattle.jobs.specs.Jobs.{listRows}
-use Rattle.figures.specs.Constructions.{sr}
+use Rattle.figures.specs.Constructions.{sr, dct}
+use Rattle.figures.specs.Passing.{passes, trials}
 use Rattle.timing.specs.Calls.{Answer, release, finish, tick, accepted, served, refused, Entry, entry, calls, log}
 use Rattle.dispatcher.specs.declared.Core.{Core}
 use Rattle.dispatcher.specs.Operations.{ask, step}
@@ -85,6 +87,19 @@ jobsL = job 5 2 ++ job 7 4
 abbrev pub jobsN : List ℕ
 jobsN = job 3 1 ++ (job 4 1 ++ job 5 3)
 
+abbrev pub jobsR : List ℕ
+jobsR = job 2 1 ++ (job 20 2 ++ job 55 20)
+
+abbrev pub jobsS : List ℕ
+jobsS = job 2 1 ++ (job 6 2 ++ job 12 1)
+
+abbrev pub jobsT : List ℕ
+jobsT = job 16 2 ++ (job 5 3 ++ (job 27 7 ++ (job 23 9 ++ (job 12 8 ++ (job 9 3 ++ job 25 3)))))
+
+-- the periods of card U
+abbrev pub farApart : List ℕ
+farApart = 1 ∷ 60000 ∷ []
+
 -- what the planner answers with limit 1, start 0 and an output of 712 bytes, and the sheet that it makes
 abbrev pub answer : List ℕ → planner.Outcome
 answer l = planOutcome l 1 0 712
@@ -111,9 +126,16 @@ planWith o f =
       w = map (λ i. withinOn f 0 i) (numbers 0 (f .tasks));
     }
 
--- the plan of a job list
+-- the plan of a job list with limit 1, from a start and from 0
+abbrev pub planFrom : ℕ → List ℕ → Plan
+planFrom start l = planWith (planOutcome l 1 start 712) (figures (sheetFor l (fitOf l 1 start)))
+
 abbrev pub plan : List ℕ → Plan
-plan l = planWith (answer l) (figures (sheetOf l))
+plan = planFrom 0
+
+-- the plan of card R
+abbrev pub planR : Plan
+planR = record { answer = planner.written 3 1 46; pivot = 2; divisor = 1; factors = 1 ∷ 9 ∷ 27 ∷ []; w = 2 ∷ 18 ∷ 54 ∷ [] }
 
 -- what a start answers, and the log of calls after it
 pub record Run : Type 0 where
@@ -188,8 +210,8 @@ linesP =
     ∷ "core 0 pivot 2000 divisor 1 load 1000"
     ∷ []
 
--- The cards. A to F and O to Q are verdicts, G to I and N plans, J and K runs on the sheet of I, L a run on the bench, M a ring order; then
--- the listings.
+-- The cards. A to F and O to Q are verdicts, G to I, N and R to T plans, J and K runs on the sheet of I, L a run on the bench, M a ring
+-- order, U trials; then the listings.
 pub record Cards : Type 0 where
   pub A : verdict (header 0 0) ≡ checker.accepted 0 0
   pub B : verdict (listed 6 4) ≡ checker.accepted 3 1
@@ -216,6 +238,22 @@ pub record Cards : Type 0 where
   pub O : verdict unchained ≡ checker.refused 13 1
   pub P : verdict nearlyFull ≡ checker.accepted 1 1
   pub Q : verdict overfull ≡ checker.refused 14 64
+  -- from each start the figures are those of Sr on base 3 with the first task as pivot
+  pub R :
+      (planFrom 0 jobsR ≡ planR)
+      × (planFrom 1 jobsR ≡ planR)
+      × (planFrom 2 jobsR ≡ planR)
+      × (sr 3 (2 ∷ 20 ∷ 55 ∷ []) 0 ≡ record { Q = 2; D = 1; factors = 1 ∷ 9 ∷ 27 ∷ [] })
+  -- Sr on base 3 comes before DCT, which passes too, with the factors 1, 3 and 6
+  pub S :
+      (plan jobsS ≡ record { answer = planner.written 3 1 46; pivot = 2; divisor = 1; factors = 1 ∷ 3 ∷ 3 ∷ []; w = 2 ∷ 6 ∷ 6 ∷ [] })
+      × (dct (2 ∷ 6 ∷ 12 ∷ []) 0 ≡ record { Q = 2; D = 1; factors = 1 ∷ 3 ∷ 6 ∷ [] })
+      × (passes (1 ∷ 2 ∷ 1 ∷ []) (dct (2 ∷ 6 ∷ 12 ∷ []) 0) ≡ true)
+  pub T : planOutcome jobsT 3 5 712 ≡ planner.refused 15 4
+  -- the second pivot on base 3 is skipped
+  pub U :
+      (sr 3 farApart 1 ≡ record { Q = 60000; D = 177147; factors = 1 ∷ 177147 ∷ [] })
+      × (trials farApart ≡ sr 2 farApart 0 ∷ sr 2 farApart 1 ∷ sr 3 farApart 0 ∷ dct farApart 0 ∷ dct farApart 1 ∷ [])
   pub listingB : listingOf (listed 6 4) ≡ text linesB
   pub listingC : listingOf (listed 7 4) ≡ text linesC
   pub listingP : listingOf nearlyFull ≡ text linesP

@@ -4,7 +4,7 @@ ghost use mathlib.Core.Path.{_≡_};
 ghost use lib.ListN.{length};
 ghost use Rattle.io.specs.Counts.{Counts};
 ghost use Rattle.fit.specs.Fits.{within as withinOf};
-ghost use Rattle.cards.specs.Cards.{header, listed as listedSheet, seven, jobsG, jobsH, jobsI, jobsL, jobsN, unchained as unchainedSheet, nearlyFull, overfull as overfullSheet};
+ghost use Rattle.cards.specs.Cards.{header, listed as listedSheet, seven, jobsG, jobsH, jobsI, jobsL, jobsN, jobsR, jobsS, jobsT, unchained as unchainedSheet, nearlyFull, overfull as overfullSheet};
 use checker::Verdict;
 use dispatcher::Answer;
 use dispatcher::Core;
@@ -84,6 +84,24 @@ fn jobs_n() -> [u8; 12]
     ensures { λ r. ⌜ r ≡ jobsN ⌝ }
 {
     *b"\x03\x00\x01\x00\x04\x00\x01\x00\x05\x00\x03\x00"
+}
+
+fn jobs_r() -> [u8; 12]
+    ensures { λ r. ⌜ r ≡ jobsR ⌝ }
+{
+    *b"\x02\x00\x01\x00\x14\x00\x02\x00\x37\x00\x14\x00"
+}
+
+fn jobs_s() -> [u8; 12]
+    ensures { λ r. ⌜ r ≡ jobsS ⌝ }
+{
+    *b"\x02\x00\x01\x00\x06\x00\x02\x00\x0c\x00\x01\x00"
+}
+
+fn jobs_t() -> [u8; 28]
+    ensures { λ r. ⌜ r ≡ jobsT ⌝ }
+{
+    *b"\x10\x00\x02\x00\x05\x00\x03\x00\x1b\x00\x07\x00\x17\x00\x09\x00\x0c\x00\x08\x00\x09\x00\x03\x00\x19\x00\x03\x00"
 }
 
 fn unchained() -> [u8; 36]
@@ -176,12 +194,12 @@ fn print_rates(sheet: &[u8], n: u8)
     print_within(tasks, n, sheet::pivot(cores, 0), sheet::divisor(cores, 0));
 }
 
-// Cards G, H and I: what the planner makes with limit 1 and start 0. The length of the sheet is returned, 0 where it is refused.
-fn plan_card(name: &[u8], jobs: &[u8], out: &mut [u8]) -> usize
+// Cards G to I and R to T: what the planner makes. The length of the sheet is returned, 0 where it is refused.
+fn plan_card(name: &[u8], jobs: &[u8], limit: u64, start: u64, out: &mut [u8]) -> usize
     ensures { λ r. ⌜ Counts r (now (out .exit)) ⌝ }
 {
     print(name);
-    let planned = planner::plan(jobs, 1, 0, out);
+    let planned = planner::plan(jobs, limit, start, out);
     match planned {
         Planned::Refused { word, place } => {
             print_refused(word, place);
@@ -259,7 +277,7 @@ fn card_l(jobs: &[u8]) {
 // Card I, and cards J and K on its sheet.
 fn cards_i_to_k() {
     let mut out = [0u8; 712];
-    let n = plan_card(b"I", &jobs_i(), &mut out);
+    let n = plan_card(b"I", &jobs_i(), 1, 0, &mut out);
     card_j(&out[..n]);
     card_k(&out[..n]);
 }
@@ -331,6 +349,16 @@ fn card_n(jobs: &[u8]) {
     print(b"\n");
 }
 
+// Cards R, from each start, S and T.
+fn cards_r_to_t() {
+    let mut out = [0u8; 712];
+    plan_card(b"R", &jobs_r(), 1, 0, &mut out);
+    plan_card(b"R", &jobs_r(), 1, 1, &mut out);
+    plan_card(b"R", &jobs_r(), 1, 2, &mut out);
+    plan_card(b"S", &jobs_s(), 1, 0, &mut out);
+    plan_card(b"T", &jobs_t(), 3, 5, &mut out);
+}
+
 // The listing of a sheet.
 fn print_listing(sheet: &[u8]) {
     let mut text = [0u8; 8192];
@@ -347,8 +375,8 @@ fn print_listing(sheet: &[u8]) {
 fn main() {
     let mut out = [0u8; 712];
     check_cards();
-    plan_card(b"G", &jobs_g(), &mut out);
-    plan_card(b"H", &jobs_h(), &mut out);
+    plan_card(b"G", &jobs_g(), 1, 0, &mut out);
+    plan_card(b"H", &jobs_h(), 1, 0, &mut out);
     cards_i_to_k();
     card_l(&jobs_l());
     card_m();
@@ -356,6 +384,7 @@ fn main() {
     check_card(b"O", &unchained());
     check_card(b"P", &nearly_full());
     check_card(b"Q", &overfull());
+    cards_r_to_t();
     print_listing(&listed(6, 4));
     print_listing(&listed(7, 4));
     print_listing(&nearly_full());

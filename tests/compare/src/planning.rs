@@ -4,14 +4,34 @@ use crate::checking::{check, count_of_cores};
 use crate::lent::{same_bytes, Lent};
 use crate::session::{hex, same, Session};
 use inputs::*;
+use reference::{construction_of, Construction, Job, Sheet};
 
 pub fn must_have_seen(session: &Session) {
     session.must_have_seen("plan", &[(0, "no core"), (0, "one core"), (0, "cores")]);
+    session.must_have_seen("plan", &[(0, BY_SR_2), (0, BY_SR_3), (0, BY_DCT)]);
     for refusal in [4, 5, 16, 22] {
         session.must_have_seen("plan", &[(refusal, "place 0")]);
     }
     for refusal in [7, 8, 15] {
         session.must_have_seen("plan", &[(refusal, "a task above 0")]);
+    }
+}
+
+const BY_SR_2: &str = "a core by Sr on base 2";
+const BY_SR_3: &str = "a core by Sr on base 3";
+const BY_DCT: &str = "a core by DCT";
+
+/// What gives a core of a plan its figures.
+fn construction(sheet: &Sheet, core: usize) -> &'static str {
+    let job = |&i: &usize| Job {
+        period: sheet.tasks[i].period,
+        budget: sheet.tasks[i].budget,
+    };
+    let jobs: Vec<Job> = sheet.by_priority(core).iter().map(job).collect();
+    match construction_of(&jobs).expect("a planned core passes") {
+        Construction::Sr { base: 2 } => BY_SR_2,
+        Construction::Sr { .. } => BY_SR_3,
+        Construction::Dct => BY_DCT,
     }
 }
 
@@ -22,6 +42,13 @@ pub fn round(session: &mut Session, rng: &mut Rng) {
         list.truncate(length);
         let (limit, start) = (any_number(rng, 9), any_number(rng, length as u64 / 4));
         plan(session, rng, &list, limit, start, 712);
+    }
+    // short lists, on as many cores as they need
+    for _ in 0..300 {
+        let count = rng.range(1, 10);
+        let list = job_list(rng, count as usize);
+        let start = rng.below(count);
+        plan(session, rng, &list, 8, start, 712);
     }
     // outputs of every length
     let list = job_list(rng, 3);
@@ -70,6 +97,9 @@ fn plan(session: &mut Session, rng: &mut Rng, list: &[u8], limit: u64, start: u6
     if reference.refusal == 0 {
         let sheet = &ours.lend()[..reference.length as usize];
         check(session, sheet);
-        assert_eq!(reference::check(sheet).refusal, 0);
+        let sheet = reference::accept(sheet).expect("a plan is accepted");
+        for core in 0..sheet.cores.len() {
+            session.saw("plan", (0, construction(&sheet, core)));
+        }
     }
 }

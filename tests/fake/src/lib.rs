@@ -46,9 +46,18 @@ pub unsafe extern "C" fn homvaits_plan(
 ) -> PlanAnswer {
     let (jobs, out) = (from_raw_parts(jobs, len), from_raw_parts_mut(out, out_len));
     // 3: a limit cut to a byte. 4: bytes past the sheet cleared. 5: bytes
-    // written before a refusal. 6: No fit for each list.
+    // written before a refusal. 6: No fit for each list. 7: no Sr on base 3.
+    // 8: DCT before Sr on base 3.
     let limit = if wrong(3) { limit as u8 as u64 } else { limit };
-    let answer = plan(jobs, limit, start, out);
+    let [sr_2, sr_3, dct] = ROUNDS;
+    let rounds: &[Round] = if wrong(7) {
+        &[sr_2, dct]
+    } else if wrong(8) {
+        &[sr_2, dct, sr_3]
+    } else {
+        &ROUNDS
+    };
+    let answer = plan_by(rounds, jobs, limit, start, out);
     if wrong(4) && answer.refusal == 0 {
         out[answer.length as usize..].fill(0);
     }
@@ -68,10 +77,10 @@ pub unsafe extern "C" fn homvaits_plan(
 /// See `homvaits_check`.
 #[no_mangle]
 pub unsafe extern "C" fn homvaits_start(sheet: *const u8, len: usize, core: u64) -> CoreAnswer {
-    // 7: a core number cut to a byte. 8: a start that does nothing.
-    let core = if wrong(7) { core as u8 as u64 } else { core };
+    // 9: a core number cut to a byte. 10: a start that does nothing.
+    let core = if wrong(9) { core as u8 as u64 } else { core };
     let mut answer = start_sheet(from_raw_parts(sheet, len), core);
-    if wrong(8) {
+    if wrong(10) {
         answer.core = Core::EMPTY;
     }
     answer
@@ -82,8 +91,8 @@ pub unsafe extern "C" fn homvaits_start(sheet: *const u8, len: usize, core: u64)
 #[no_mangle]
 pub unsafe extern "C" fn homvaits_start_list(jobs: *const u8, len: usize) -> CoreAnswer {
     let mut answer = start_list(from_raw_parts(jobs, len));
-    // 9: a place past the tasks not zero
-    if wrong(9) && answer.core.count < 64 {
+    // 11: a place past the tasks not zero
+    if wrong(11) && answer.core.count < 64 {
         answer.core.tasks[63].number = 63;
     }
     answer
@@ -92,8 +101,8 @@ pub unsafe extern "C" fn homvaits_start_list(jobs: *const u8, len: usize) -> Cor
 #[no_mangle]
 pub extern "C" fn homvaits_release(core: Core, number: u64) -> CoreAnswer {
     let mut answer = release(core, number);
-    // 10: every release Early. 11: no ticks left to the job.
-    if wrong(10) && answer.refusal == 0 {
+    // 12: every release Early. 13: no ticks left to the job.
+    if wrong(12) && answer.refusal == 0 {
         let place = number as u16;
         return CoreAnswer {
             refusal: 18,
@@ -101,7 +110,7 @@ pub extern "C" fn homvaits_release(core: Core, number: u64) -> CoreAnswer {
             core,
         };
     }
-    if wrong(11) && answer.refusal == 0 {
+    if wrong(13) && answer.refusal == 0 {
         let count = answer.core.count as usize;
         let tasks = answer.core.tasks[..count].iter_mut();
         tasks
@@ -114,8 +123,8 @@ pub extern "C" fn homvaits_release(core: Core, number: u64) -> CoreAnswer {
 #[no_mangle]
 pub extern "C" fn homvaits_finish(core: Core, number: u64) -> CoreAnswer {
     let mut answer = finish(core, number);
-    // 12: the age counted from the end of the job
-    if wrong(12) && answer.refusal == 0 {
+    // 14: the age counted from the end of the job
+    if wrong(14) && answer.refusal == 0 {
         let count = answer.core.count as usize;
         let tasks = answer.core.tasks[..count].iter_mut();
         tasks
@@ -128,15 +137,15 @@ pub extern "C" fn homvaits_finish(core: Core, number: u64) -> CoreAnswer {
 #[no_mangle]
 pub extern "C" fn homvaits_tick(core: Core) -> TickAnswer {
     let mut answer = tick(core);
-    // 13: only the first task is served. 14: ages stand on idle ticks. 15: the
+    // 15: only the first task is served. 16: ages stand on idle ticks. 17: the
     // places past the tasks cleared.
-    if wrong(13) && answer.refusal == 0 && core.count > 0 && core.tasks[0].left == 0 {
+    if wrong(15) && answer.refusal == 0 && core.count > 0 && core.tasks[0].left == 0 {
         answer.task = IDLE;
     }
-    if wrong(14) && answer.task == IDLE {
+    if wrong(16) && answer.task == IDLE {
         answer.core = core;
     }
-    if wrong(15) && answer.refusal == 0 {
+    if wrong(17) && answer.refusal == 0 {
         answer.core.tasks[core.count as usize..].fill(Task::default());
     }
     answer
@@ -152,16 +161,16 @@ pub unsafe extern "C" fn homvaits_list(
     out_len: usize,
 ) -> ListAnswer {
     let (sheet, out) = (from_raw_parts(sheet, len), from_raw_parts_mut(out, out_len));
-    // 16: the last line feed left out. 17: Tight by the text's length only.
-    // 18: loads rounded down.
-    if wrong(18) && out.len() >= LISTING_ROOM {
+    // 18: the last line feed left out. 19: Tight by the text's length only.
+    // 20: loads rounded down.
+    if wrong(20) && out.len() >= LISTING_ROOM {
         return put(&loads_rounded_down(sheet), out);
     }
     let mut answer = list_into(sheet, out);
-    if wrong(16) && answer.refusal == 0 {
+    if wrong(18) && answer.refusal == 0 {
         answer.length -= 1;
     }
-    if wrong(17) && answer.refusal == 16 {
+    if wrong(19) && answer.refusal == 16 {
         let text = list(sheet);
         if text.len() <= out.len() {
             answer = put(&text, out);

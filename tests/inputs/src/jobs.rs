@@ -6,7 +6,7 @@ pub const JOB_DAMAGES: usize = 6;
 
 /// A list of `count` jobs in range. Some lists fit few cores, some many.
 pub fn job_list(rng: &mut Rng, count: usize) -> Vec<u8> {
-    let style = rng.below(6);
+    let style = rng.below(7);
     let base = rng.range(1, 40);
     // the load of a job is near 1 / crowd
     let crowd = rng.range(1, 2 * count as u64 + 1);
@@ -34,6 +34,8 @@ fn period(rng: &mut Rng, style: u64, base: u64) -> u64 {
         3 => ((1 << rng.below(16)) + rng.below(3)).clamp(2, 60_000) - 1,
         // near a multiple of the base
         4 => base * (1 << rng.below(8)) * rng.pick(&[1, 1, 3]) + rng.below(2),
+        // near the base times a power of three, seldom near twice that
+        5 => base * 3u64.pow(rng.below(7) as u32) * rng.pick(&[1, 1, 1, 1, 1, 2]) + rng.below(3),
         // of every size
         _ => {
             let bits = rng.range(1, 16);

@@ -19,7 +19,9 @@ pub use dispatcher::{finish, release, start_list, start_sheet, tick};
 pub use fraction::Fraction;
 pub use jobs::Job;
 pub use listing::{list, list_into, LISTING_ROOM};
-pub use planner::{dct, plan, ring_order, sr, Construction};
+pub use planner::{
+    construction_of, dct, plan, plan_by, ring_order, sr, trials, Construction, Round, Trial, ROUNDS,
+};
 pub use sheet::{CoreRecord, Sheet, TaskRecord, LONGEST_SHEET};
 
 /// The ranges of counts, periods and factors (docs/SHEET.md, section 2).

@@ -2,10 +2,21 @@
 
 use crate::jobs::{self, Job};
 use crate::sheet::{load, CoreRecord, Sheet, TaskRecord, LONGEST_SHEET};
-use crate::{refuse_if, Fraction, Outcome, PlanAnswer, Refusal};
+use crate::{refuse_if, Fraction, Outcome, PlanAnswer, Refusal, LARGEST_FACTOR};
 
 pub fn plan(list: &[u8], limit: u64, start: u64, out: &mut [u8]) -> PlanAnswer {
-    match planned(list, limit, start, out.len()) {
+    plan_by(&ROUNDS, list, limit, start, out)
+}
+
+/// The planner with other rounds.
+pub fn plan_by(
+    rounds: &[Round],
+    list: &[u8],
+    limit: u64,
+    start: u64,
+    out: &mut [u8],
+) -> PlanAnswer {
+    match planned(rounds, list, limit, start, out.len()) {
         Err(refusal) => refusal.into(),
         Ok(sheet) => {
             let bytes = sheet.write();
@@ -20,17 +31,22 @@ pub fn plan(list: &[u8], limit: u64, start: u64, out: &mut [u8]) -> PlanAnswer {
     }
 }
 
-fn planned(list: &[u8], limit: u64, start: u64, room: usize) -> Outcome<Sheet> {
+fn planned(rounds: &[Round], list: &[u8], limit: u64, start: u64, room: usize) -> Outcome<Sheet> {
     let jobs = jobs::read(list, limit)?;
     let in_order = start < jobs.len() as u64 || (jobs.is_empty() && start == 0);
     refuse_if(22, !in_order)?;
     refuse_if(16, room < LONGEST_SHEET)?;
-    let cores = first_fit(&jobs, limit as usize, start as usize)?;
-    Ok(written(&jobs, &cores))
+    let cores = first_fit(rounds, &jobs, limit as usize, start as usize)?;
+    Ok(written(rounds, &jobs, &cores))
 }
 
 /// The jobs of each core, in the order in which they came.
-fn first_fit(jobs: &[Job], limit: usize, start: usize) -> Outcome<Vec<Vec<usize>>> {
+fn first_fit(
+    rounds: &[Round],
+    jobs: &[Job],
+    limit: usize,
+    start: usize,
+) -> Outcome<Vec<Vec<usize>>> {
     let periods: Vec<u64> = jobs.iter().map(|job| job.period).collect();
     let ring = ring_order(&periods);
     let mut cores: Vec<Vec<usize>> = Vec::new();
@@ -39,7 +55,7 @@ fn first_fit(jobs: &[Job], limit: usize, start: usize) -> Outcome<Vec<Vec<usize>
         let passes_with = |core: &Vec<usize>| {
             let mut set = core.clone();
             set.push(job);
-            figures(jobs, &set).is_some()
+            figures(rounds, jobs, &set).is_some()
         };
         match cores.iter().position(passes_with) {
             Some(core) => cores[core].push(job),
@@ -56,17 +72,17 @@ fn first_fit(jobs: &[Job], limit: usize, start: usize) -> Outcome<Vec<Vec<usize>
 }
 
 /// The sheet of jobs that are all placed on cores that pass.
-fn written(jobs: &[Job], cores: &[Vec<usize>]) -> Sheet {
+fn written(rounds: &[Round], jobs: &[Job], cores: &[Vec<usize>]) -> Sheet {
     let mut factors = vec![0; jobs.len()];
     let mut homes = vec![0; jobs.len()];
     let mut records = Vec::new();
     for (number, set) in cores.iter().enumerate() {
-        let figures = figures(jobs, set).expect("the set passes");
-        for (job, factor) in figures.factors {
+        let (order, trial) = figures(rounds, jobs, set).expect("the set passes");
+        for (job, factor) in order.into_iter().zip(trial.factors) {
             factors[job] = factor;
             homes[job] = number;
         }
-        records.push(figures.core);
+        records.push(trial.core);
     }
     let task = |i: usize| TaskRecord {
         period: jobs[i].period,
@@ -95,59 +111,119 @@ pub fn ring_order(periods: &[u64]) -> Vec<usize> {
     order
 }
 
-/// A core's pivot and divisor, and the factor of each of its jobs.
-struct Figures {
-    core: CoreRecord,
-    factors: Vec<(usize, u64)>,
+/// The jobs of a set in priority order and the first trial whose load is at
+/// most one.
+fn figures(rounds: &[Round], jobs: &[Job], set: &[usize]) -> Option<(Vec<usize>, Trial)> {
+    let mut order = set.to_vec();
+    order.sort_by_key(|&i| (jobs[i].period, i));
+    let periods: Vec<u64> = order.iter().map(|&i| jobs[i].period).collect();
+    let passes = |trial: &Trial| {
+        let budgets = order.iter().map(|&i| jobs[i].budget);
+        let shares: Vec<(u64, u64)> = budgets.zip(trial.factors.iter().copied()).collect();
+        load(&shares, trial.core) <= Fraction::whole(1)
+    };
+    let first = trials(rounds, &periods).find(passes)?;
+    Some((order, first))
 }
 
-/// The figures of the first construction whose load is at most one: Sr with
-/// each job as pivot by priority, then DCT likewise.
-fn figures(jobs: &[Job], set: &[usize]) -> Option<Figures> {
-    let mut set = set.to_vec();
-    set.sort_by_key(|&i| (jobs[i].period, i));
-    let periods: Vec<u64> = set.iter().map(|&i| jobs[i].period).collect();
-    for construction in [sr, dct] as [Construction; 2] {
-        for pivot in 0..set.len() {
-            let accelerated = construction(&periods, pivot);
-            let (core, factors) = written_form(periods[pivot], &accelerated);
-            let budgets = set.iter().map(|&i| jobs[i].budget);
-            let shares: Vec<(u64, u64)> = budgets.zip(factors.iter().copied()).collect();
-            if load(&shares, core) <= Fraction::whole(1) {
-                let factors = set.into_iter().zip(factors).collect();
-                return Some(Figures { core, factors });
-            }
-        }
-    }
-    None
+/// The construction that gives a core of these jobs its figures, if they pass.
+pub fn construction_of(jobs: &[Job]) -> Option<Construction> {
+    let set: Vec<usize> = (0..jobs.len()).collect();
+    figures(&ROUNDS, jobs, &set).map(|(_, trial)| trial.construction)
 }
 
-/// Q, D and the factors: the first factor is 1, and D is Q over the first
-/// accelerated period.
-fn written_form(pivot: u64, accelerated: &[Fraction]) -> (CoreRecord, Vec<u64>) {
-    let first = accelerated[0];
+/// A construction that is tried with each job of a set as pivot by priority.
+#[derive(Clone, Copy, Debug, PartialEq, Eq)]
+pub struct Round {
+    pub construction: Construction,
+    /// Whether a pivot with a divisor or factor above 120,000 is skipped.
+    pub skips: bool,
+}
+
+/// The rounds in their order.
+pub const ROUNDS: [Round; 3] = [
+    Round {
+        construction: Construction::Sr { base: 2 },
+        skips: false,
+    },
+    Round {
+        construction: Construction::Sr { base: 3 },
+        skips: true,
+    },
+    Round {
+        construction: Construction::Dct,
+        skips: false,
+    },
+];
+
+/// The written form of a construction with one pivot: Q, D and the factors in
+/// priority order.
+#[derive(Clone, Debug, PartialEq, Eq)]
+pub struct Trial {
+    pub construction: Construction,
+    pub core: CoreRecord,
+    pub factors: Vec<u64>,
+}
+
+/// The trials in their order, for periods in priority order.
+pub fn trials<'a>(rounds: &'a [Round], periods: &'a [u64]) -> impl Iterator<Item = Trial> + 'a {
+    rounds.iter().flat_map(move |round| {
+        (0..periods.len())
+            .map(|pivot| written_form(round.construction, periods, pivot))
+            .filter(|trial| !(round.skips && has_large_figures(trial)))
+    })
+}
+
+/// The first factor is 1, and D is Q over the first accelerated period.
+fn written_form(construction: Construction, periods: &[u64], pivot: usize) -> Trial {
+    let accelerated = construction.accelerated(periods, pivot);
+    let (first, pivot) = (accelerated[0], periods[pivot]);
     let divisor = Fraction::whole(pivot as u128).ratio(first).exact() as u64;
     let factors = accelerated
         .iter()
         .map(|period| period.ratio(first).exact() as u64)
         .collect();
-    (CoreRecord { pivot, divisor }, factors)
+    Trial {
+        construction,
+        core: CoreRecord { pivot, divisor },
+        factors,
+    }
 }
 
-/// From periods in priority order and a pivot to accelerated periods.
-pub type Construction = fn(&[u64], usize) -> Vec<Fraction>;
+fn has_large_figures(trial: &Trial) -> bool {
+    let large = |figure: u64| figure > LARGEST_FACTOR;
+    large(trial.core.divisor) || trial.factors.iter().any(|&factor| large(factor))
+}
 
-/// Sr: the accelerated periods are Q times the largest power of two, whose
+/// A way from periods to accelerated periods.
+#[derive(Clone, Copy, Debug, PartialEq, Eq)]
+pub enum Construction {
+    Sr { base: u64 },
+    Dct,
+}
+
+impl Construction {
+    /// From periods in priority order and a pivot to accelerated periods.
+    pub fn accelerated(self, periods: &[u64], pivot: usize) -> Vec<Fraction> {
+        match self {
+            Construction::Sr { base } => sr(base, periods, pivot),
+            Construction::Dct => dct(periods, pivot),
+        }
+    }
+}
+
+/// Sr: the accelerated periods are Q times the largest power of the base, whose
 /// exponent may be negative, with Q * power <= p.
-pub fn sr(periods: &[u64], pivot: usize) -> Vec<Fraction> {
+pub fn sr(base: u64, periods: &[u64], pivot: usize) -> Vec<Fraction> {
+    let base = base as u128;
     let accelerated = |&p: &u64| {
         let p = Fraction::whole(p as u128);
         let mut period = Fraction::whole(periods[pivot] as u128);
         while period > p {
-            period = period.divided_by(2);
+            period = period.divided_by(base);
         }
-        while period.times(2) <= p {
-            period = period.times(2);
+        while period.times(base) <= p {
+            period = period.times(base);
         }
         period
     };

@@ -2,6 +2,9 @@
 
 use reference::*;
 
+const SR: Construction = Construction::Sr { base: 2 };
+const DCT: Construction = Construction::Dct;
+
 fn fractions(list: [(u128, u128); 3]) -> Vec<Fraction> {
     list.iter().map(|&(a, b)| Fraction::new(a, b)).collect()
 }
@@ -10,9 +13,9 @@ fn fractions(list: [(u128, u128); 3]) -> Vec<Fraction> {
 #[test]
 fn accelerated_periods() {
     let periods = [2, 11, 17];
-    assert_eq!(sr(&periods, 0), fractions([(2, 1), (8, 1), (16, 1)]));
-    assert_eq!(sr(&periods, 1), fractions([(11, 8), (11, 1), (11, 1)]));
-    assert_eq!(sr(&periods, 2), fractions([(17, 16), (17, 2), (17, 1)]));
+    assert_eq!(sr(2, &periods, 0), fractions([(2, 1), (8, 1), (16, 1)]));
+    assert_eq!(sr(2, &periods, 1), fractions([(11, 8), (11, 1), (11, 1)]));
+    assert_eq!(sr(2, &periods, 2), fractions([(17, 16), (17, 2), (17, 1)]));
     assert_eq!(dct(&periods, 0), fractions([(2, 1), (10, 1), (10, 1)]));
     assert_eq!(dct(&periods, 1), fractions([(11, 6), (11, 1), (11, 1)]));
     assert_eq!(dct(&periods, 2), fractions([(17, 10), (17, 2), (17, 1)]));
@@ -54,7 +57,7 @@ fn planned(set: u16) -> bool {
 fn passes(construction: Construction, set: u16) -> bool {
     let periods: Vec<u64> = group(set).iter().map(|task| task.0 as u64).collect();
     (0..periods.len()).any(|pivot| {
-        let accelerated = construction(&periods, pivot);
+        let accelerated = construction.accelerated(&periods, pivot);
         let last = accelerated[periods.len() - 1];
         let demand =
             |(task, period): (&(u16, u16), &Fraction)| task.1 as u128 * last.ratio(*period).exact();
@@ -96,9 +99,12 @@ fn counts(passes: &dyn Fn(u16) -> bool) -> [(u32, u32); 3] {
 
 #[test]
 fn partitions_of_ten_tasks() {
+    let by_either = |set| passes(SR, set) || passes(DCT, set);
+    assert_eq!(counts(&by_either), [(2100, 470), (1575, 12), (2520, 0)]);
+    // base 3 adds none
     assert_eq!(counts(&planned), [(2100, 470), (1575, 12), (2520, 0)]);
-    let by_sr = |set| passes(sr, set);
+    let by_sr = |set| passes(SR, set);
     assert_eq!(counts(&by_sr), [(2100, 268), (1575, 2), (2520, 0)]);
-    let by_dct = |set| passes(dct, set);
+    let by_dct = |set| passes(DCT, set);
     assert_eq!(counts(&by_dct), [(2100, 462), (1575, 11), (2520, 0)]);
 }
