@@ -1,3 +1,4 @@
+pub mod Computed
 pub mod Lists
 pub mod Powers
 pub mod Sound

@@ -4,7 +4,7 @@ use Prim.Native.Nat.{ℕ, _+_, _-_, _*_, _/_, _≤_, _<_, zero-le}
 use mathlib.Core.Path.{_≡_, refl, sym, ap, _∙_}
 use mathlib.Core.Bool.{Bool, true, false, _&&_, and-false}
 use mathlib.Core.List.{List, _∷_}
-use native.Mathlib.Nat.{pow-zero, mul-le-mul, le-refl, le-trans}
+use native.Mathlib.Nat.{pow-zero, mul-le-mul, mul-le-mul-right, le-trans}
 use native.Mathlib.Omega.{arith}
 use borrow.Author.Tests.{lt-leb}
 use lib.ListN.{length}
@@ -16,8 +16,8 @@ use Rattle.figures.specs.Constructions.{Acceleration, Power, leastPower,
 use Rattle.figures.specs.Meaning.{Sound}
 use Rattle.figures.specs.Passing.{passes, inRange}
 use Rattle.figures.specs.Steps.{Ready, Usable, holds}
-use Rattle.figures.proofs.Sound.{factors-length, factors-at, factors-rise, in-range, range-divisor, range-factors}
-use Rattle.figures.proofs.Ranges.{pivot-high}
+use Rattle.figures.proofs.Sound.{factors-length, factors-at, factors-rise, factors-bound, in-range, range-divisor, range-factors}
+use Rattle.figures.proofs.Ranges.{periods, pivot-high}
 use Rattle.figures.proofs.LoadLoop.{LoadLoop, load-start, load-turn, load-over, load-end}
 use Rattle.figures.proofs.SrLoop.{SrLoop, sr-start, whole, limit-small-from, power-fits-from, factor-from, factor-is}
 
@@ -39,15 +39,11 @@ pub record SrLoad (b : ℕ) (ps es : List ℕ) (c q d L limit total i : ℕ) : T
   pub usable : Usable d (sr b ps c .factors) (length es)
   pub load : LoadLoop es (sr b ps c .factors) d (at (sr b ps c .factors) (length es - 1)) limit total i
 
--- the code's first power, and its limit
 pub one-power : (b : ℕ) → Power b 1
 unfolding Power
 one-power b = (0, sym (pow-zero b))
 
-pub full-fits : (q L : ℕ) → q < 65536 → L ≤ 120000 → Fits w64 (q * L)
-full-fits q L h k = let m : q * L ≤ 7864200000 = mul-le-mul {n₂ = 65535} {m₂ = 120000} (omega arith) k in record { fits = omega arith }
-
-module _ (b : ℕ) (ps es : List ℕ) (c q x d : ℕ) (two : 2 ≤ b) (three : b ≤ 3) (r : Ready ps c) (n : length ps ≡ length es) (e : q ≡ at ps c) (f : x ≡ at ps 0) (g : d ≡ leastPower b q x) where
+module _ (b : ℕ) (ps : List ℕ) (c q x d : ℕ) (two : 2 ≤ b) (three : b ≤ 3) (r : Ready ps c) (e : q ≡ at ps c) (f : x ≡ at ps 0) (g : d ≡ leastPower b q x) where
   begin : SrLoop b ps c q d 1 0
   begin = sr-start b ps c two three r q x d e f g
 
@@ -72,17 +68,24 @@ module _ (b : ℕ) (ps es : List ℕ) (c q x d : ℕ) (two : 2 ≤ b) (three : b
       size : length (sr b ps c .factors) ≡ length ps
       size = factors-length _ _ 1 ps _ (whole b ps c q d 1 0 begin .factors)
 
-      -- a pivot with a figure above 120,000 is skipped
-      pub skip-divisor : 120000 < d → false ≡ holds es (sr b ps c)
-      skip-divisor h = out-of-range es (sr b ps c) (λ r. let most : d ≤ 120000 = rw (begin .divisor) (range-divisor (sr b ps c) r) in omega arith)
+      pub full-fits : Fits w64 (q * L)
+      full-fits =
+          let small : L < b * 60000 = rw last-is (factors-bound b ps (sr b ps c) (periods ps c r) (whole b ps c q d 1 0 begin) (length ps - 1) (omega (arith, not-empty))) in
+          let three-times : b * 60000 ≤ 180000 = mul-le-mul-right 60000 three in
+          let product : q * L ≤ 10800000000 = mul-le-mul {n₂ = 60000} {m₂ = 180000} (pivot-high ps c r q e) (omega arith) in
+          record { fits = omega arith }
 
-      pub skip-last : 120000 < L → false ≡ holds es (sr b ps c)
-      skip-last h =
+      -- a pivot with a figure above 120,000 is skipped
+      pub skip-divisor : (es : List ℕ) → 120000 < d → false ≡ holds es (sr b ps c)
+      skip-divisor es h = out-of-range es (sr b ps c) (λ r. let most : d ≤ 120000 = rw (begin .divisor) (range-divisor (sr b ps c) r) in omega arith)
+
+      pub skip-last : (es : List ℕ) (t : ℕ) → 120000 ≤ t → t < L → false ≡ holds es (sr b ps c)
+      skip-last es t k h =
           out-of-range es (sr b ps c)
           (λ r. let most : L ≤ 120000 = rw last-is (range-factors (sr b ps c) r (length ps - 1) (rw size (omega (arith, not-empty)))) in omega arith)
 
-      pub load-begin : d ≤ 120000 → L ≤ 120000 → SrLoad b ps es c q d L (q * L) 0 0
-      load-begin h k =
+      pub load-begin : (es : List ℕ) → length ps ≡ length es → d ≤ 120000 → L ≤ 120000 → SrLoad b ps es c q d L (q * L) 0 0
+      load-begin es n h k =
           let s : Sound b ps (sr b ps c) = whole b ps c q d 1 0 begin in
           let high : (i : ℕ) → i < length ps → at (sr b ps c .factors) i ≤ 120000 = λ i j. le-trans (rw last-is (factors-rise _ _ 1 ps _ (s .factors) i (length ps - 1) (omega arith) (omega arith))) k in
           let here : L ≡ at (sr b ps c .factors) (length es - 1) = rw n at last-is in

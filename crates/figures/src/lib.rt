@@ -222,14 +222,14 @@ fn sr_holds(base: u64, periods: &[u16], budgets: &[u16], pivot: usize) -> bool
     if 120_000 < last {
         return false;
     }
-    let limit = q * last;
+    let full = q * last;
     let mut total = 0;
     let mut power = 1;
     let mut i = 0;
     while i < n {
         power = largest_power(base, q, wide(periods[i]) * d, power);
         total += share(wide(budgets[i]), d, last as u32, power as u32);
-        if limit < total {
+        if full < total {
             return false;
         }
         i += 1;

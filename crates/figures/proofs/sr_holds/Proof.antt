@@ -15,11 +15,11 @@ use Rattle.figures.proofs.share.Reads as share-reads
 use Rattle.figures.proofs.wide.Reads as wide-reads
 
 abbrev Inv-loop : tie.InvT-loop
-Inv-loop base periods budgets pivot n q d last limit total₀ power₀ i₀ total power i =
-    (i ≤ length periods) × SrLoop base periods pivot q d power i × SrLoad base periods budgets pivot q d last limit total i
+Inv-loop base periods budgets pivot n q d last full total₀ power₀ i₀ total power i =
+    (i ≤ length periods) × SrLoop base periods pivot q d power i × SrLoad base periods budgets pivot q d last full total i
 
 abbrev μ-loop : tie.MeasureT-loop
-μ-loop base periods budgets pivot n q d last limit total₀ power₀ i₀ total power i = length periods - i
+μ-loop base periods budgets pivot n q d last full total₀ power₀ i₀ total power i = length periods - i
 
 mul-wide : tie.Need-mul-wide Inv-loop μ-loop
 mul-wide c = search needs
@@ -63,8 +63,12 @@ returns c = search (skip-divisor, needs)
 returns-2 : tie.Need-returns-2 Inv-loop μ-loop
 returns-2 c = search (skip-last, needs)
 
-mul-limit : tie.Need-mul-limit Inv-loop μ-loop
-mul-limit c = search (full-fits, needs)
+mul-full : tie.Need-mul-full Inv-loop μ-loop
+mul-full c =
+    let l = c .before .before in
+    let w = l .before .before .before .before in
+    let p = w .before .before .before .before .before .before .pre in
+    full-fits _ _ _ _ _ _ (p .0) (p .1) (p .2) (w .before .before .wide .ensures .0) (w .wide2 .ensures .0) (l .before .before .before .least-power .ensures) _ (l .before .wide3 .ensures .0) _ (l .largest-power .ensures)
 
 loop-holds : tie.Need-loop-holds Inv-loop μ-loop
 loop-holds c =
@@ -76,7 +80,7 @@ loop-holds c =
     let d = l .before .before .before .least-power .ensures in (
       search needs,
       sr-start _ _ _ (p .0) (p .1) (p .2) _ _ _ q x d,
-      load-begin _ _ _ _ _ _ _ (p .0) (p .1) (p .2) (p .3) q x d _ (l .before .wide3 .ensures .0) _ (l .largest-power .ensures) (c .before .if1 .left) (c .if2 .left),
+      load-begin _ _ _ _ _ _ (p .0) (p .1) (p .2) q x d _ (l .before .wide3 .ensures .0) _ (l .largest-power .ensures) _ (p .3) (c .before .if1 .left) (c .if2 .left),
     )
 
 mul-wide-3 : tie.Need-mul-wide-3 Inv-loop μ-loop
@@ -169,7 +173,7 @@ sr-holds-spec =
     largest-power-requires
     returns
     returns-2
-    mul-limit
+    mul-full
     loop-holds
     mul-wide-3
     shared-slice-read-wide-4
