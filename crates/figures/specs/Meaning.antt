@@ -42,7 +42,7 @@ Factors Q D d (p ∷ ps) [] = ⊥
 Factors Q D d (p ∷ ps) (m ∷ ms) = Factor Q D d p m × Factors Q D m ps ms
 
 -- The written form: Q is in range, the first task has factor 1, no accelerated period is above its period, the factors are a chain, and D
--- is below b × Q. So D is below 120,000 on base 2, and so is each M.
+-- is below b × Q. So D is below b × 60,000, and so is each M: on base 2 below 120,000, on base 3 below 180,000.
 pub record Sound (b : ℕ) (ps : List ℕ) (a : Acceleration) : Type 0 where
   pub pivot : (1 ≤ a .Q) × (a .Q ≤ 60000)
   pub divisor : (1 ≤ a .D) × (a .D < b * a .Q)
