@@ -13,5 +13,5 @@ pub mod SrLoop
 pub mod DctLoops
 pub mod LoadLoop
 pub mod Rounds
-pub mod SrHolds
+pub mod SrFeasible
 pub mod Skips

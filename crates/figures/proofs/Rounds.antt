@@ -21,7 +21,7 @@ use Rattle.figures.specs.declared.Kind.the-variants.{Sr2, Sr3, Dct}
 use Rattle.figures.specs.Constructions.{Acceleration, sr, dct}
 use Rattle.figures.specs.Meaning.{Rising, Sound}
 use Rattle.figures.specs.Passing.{passes, first, eachPivot, inRange, trials, rising, taskSet, firstPassing}
-use Rattle.figures.specs.Steps.{Ready, Usable, readBack, construction, holds}
+use Rattle.figures.specs.Steps.{Ready, Usable, readBack, construction, feasible}
 use Rattle.figures.specs.Answers.{written, outcome}
 use Rattle.figures.proofs.Sound.{divisor-bound, factors-at, factors-bound, two-in-range}
 use Rattle.figures.proofs.Ranges.{periods}
@@ -90,9 +90,9 @@ module _ (ps es : List ℕ) (i : ℕ) (y : Ready ps i) (n : length ps ≡ length
         factors = λ j q. rw (at-padded (a .factors) j) (factors-at (a .Q) (a .D) 1 ps (a .factors) (whole .factors) j q .1, le-of-lt (factors-bound 2 ps a (periods ps i y) whole j q));
       })
 
-  pub dct-holds : (r : Bool) → r ≡ passes es (readBack f) → r ≡ holds es (dct ps i)
-  unfolding holds
-  dct-holds r q = q ∙ ap (λ t. passes es (readBack t)) e ∙ rw (two-in-range ps (dct ps i) (periods ps i y) whole) (passes-written es (dct ps i))
+  pub dct-feasible : (r : Bool) → r ≡ passes es (readBack f) → r ≡ feasible es (dct ps i)
+  unfolding feasible
+  dct-feasible r q = q ∙ ap (λ t. passes es (readBack t)) e ∙ rw (two-in-range ps (dct ps i) (periods ps i y) whole) (passes-written es (dct ps i))
 
 module _ (ps es : List ℕ) (set : taskSet ps es ≡ true) where
   pub even : length ps ≡ length es
@@ -115,7 +115,7 @@ module _ (ps es : List ℕ) (set : taskSet ps es ≡ true) where
   all-dct : Each (λ a. inRange a ≡ true) (eachPivot dct ps)
   all-dct = each-pivot (λ a. inRange a ≡ true) dct ps (λ i h. two-in-range ps (dct ps i) (set-rising i h) (dct-sound ps i (set-rising i h) h))
 
--- no construction with a pivot before place i holds
+-- no construction with a pivot before place i is feasible
 pub record RoundLoop (k : Kind) (ps es : List ℕ) (i : ℕ) : Type 0 where
   pub left : first es (select inRange (eachPivot (construction k) ps)) ≡ first es (select inRange (map (construction k ps) (numbers i (length ps - i))))
 
@@ -123,9 +123,9 @@ pub round-start : (k : Kind) (ps es : List ℕ) → RoundLoop k ps es 0
 unfolding eachPivot
 round-start k ps es = record { left = rw (sub-zero (length ps)) }
 
--- the first of those in range is a trial that holds, or a later one
-first-select : (es : List ℕ) (a : Acceleration) (l : List Acceleration) → first es (select inRange (a ∷ l)) ≡ cond (holds es a) (some a) (first es (select inRange l))
-unfolding first select holds
+-- the first of those in range is a feasible trial, or a later one
+first-select : (es : List ℕ) (a : Acceleration) (l : List Acceleration) → first es (select inRange (a ∷ l)) ≡ cond (feasible es a) (some a) (first es (select inRange l))
+unfolding first select feasible
 first-select es a l = by (inRange a)
   where
     by : (t : Bool) → first es (cond t (a ∷ select inRange l) (select inRange l)) ≡ cond (t && passes es a) (some a) (first es (select inRange l))
@@ -133,7 +133,7 @@ first-select es a l = by (inRange a)
     by false = refl
 
 module _ (k : Kind) (ps es : List ℕ) (i : ℕ) (s : RoundLoop k ps es i) where
-  module _ (r : Bool) (h : i < length ps) (q : r ≡ holds es (construction k ps i)) where
+  module _ (r : Bool) (h : i < length ps) (q : r ≡ feasible es (construction k ps i)) where
     step : first es (select inRange (eachPivot (construction k) ps)) ≡ cond r (some (construction k ps i)) (first es (select inRange (map (construction k ps) (numbers (suc i) (length ps - suc i)))))
     unfolding numbers
     step =

@@ -15,7 +15,7 @@ use Rattle.fit.specs.Lists.{at}
 use Rattle.figures.specs.Constructions.{Power, leastPower, largestPower, sr}
 use Rattle.figures.specs.Meaning.{Rising, Multiplier, Sound}
 use Rattle.figures.specs.Passing.{passes, inRange}
-use Rattle.figures.specs.Steps.{Ready, Usable, holds}
+use Rattle.figures.specs.Steps.{Ready, Usable, feasible}
 use Rattle.figures.specs.Answers.{written}
 use Rattle.figures.proofs.Lists.{at-map}
 use Rattle.figures.proofs.Sound.{rising-pair, factors-at, factors-rise, divisor-bound, factors-bound, in-range, range-divisor, range-factors}

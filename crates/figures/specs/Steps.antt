@@ -23,9 +23,9 @@ construction Sr2 = sr 2
 construction Sr3 = sr 3
 construction Dct = dct
 
--- an acceleration is in range and passes
-unfoldable pub holds : List ℕ → Acceleration → Bool
-holds es a = inRange a && passes es a
+-- an acceleration is in range and passes: a trial that can be taken
+unfoldable pub feasible : List ℕ → Acceleration → Bool
+feasible es a = inRange a && passes es a
 
 -- the code's figures as an acceleration, which has zeros past the factors
 abbrev pub readBack : CoreFigures → Acceleration

@@ -10,7 +10,7 @@ ghost use Rattle.fit.specs.Lists.{select, at, padded};
 ghost use Rattle.fit.specs.Rounding.{ceiling};
 ghost use Rattle.figures.specs.Constructions.{Power, leastPower, largestPower, sr as srOf, down, downs, dct as dctOf};
 ghost use Rattle.figures.specs.Passing.{passes as passesOf, first, eachPivot, inRange, rising, taskSet, firstPassing};
-ghost use Rattle.figures.specs.Steps.{Ready, Usable, readBack, construction, holds};
+ghost use Rattle.figures.specs.Steps.{Ready, Usable, readBack, construction, feasible};
 ghost use Rattle.figures.specs.Answers.{written, outcome};
 
 // The pivot's period, the divisor, and the factors in priority order, then zeros.
@@ -208,9 +208,9 @@ fn passes(f: CoreFigures, budgets: &[u16]) -> bool
 }
 
 // Whether Sr on a base, with the task at place `pivot` as pivot, is in range and passes; no figure is stored.
-fn sr_holds(base: u64, periods: &[u16], budgets: &[u16], pivot: usize) -> bool
+fn sr_feasible(base: u64, periods: &[u16], budgets: &[u16], pivot: usize) -> bool
     requires { ⌜ (2 ≤ base) × (base ≤ 3) × Ready (now periods) pivot × (length (now periods) ≡ length (now budgets)) ⌝ }
-    ensures { λ r. ⌜ r ≡ holds (now (budgets .entry)) (srOf base (now (periods .entry)) pivot) ⌝ }
+    ensures { λ r. ⌜ r ≡ feasible (now (budgets .entry)) (srOf base (now (periods .entry)) pivot) ⌝ }
 {
     let n = periods.len();
     let q = wide(periods[pivot]);
@@ -238,13 +238,13 @@ fn sr_holds(base: u64, periods: &[u16], budgets: &[u16], pivot: usize) -> bool
 }
 
 // Whether the construction of a kind, with the task at place `pivot` as pivot, is in range and passes.
-fn trial_holds(kind: Kind, periods: &[u16], budgets: &[u16], pivot: usize) -> bool
+fn trial_feasible(kind: Kind, periods: &[u16], budgets: &[u16], pivot: usize) -> bool
     requires { ⌜ Ready (now periods) pivot × (length (now periods) ≡ length (now budgets)) ⌝ }
-    ensures { λ r. ⌜ r ≡ holds (now (budgets .entry)) (construction kind (now (periods .entry)) pivot) ⌝ }
+    ensures { λ r. ⌜ r ≡ feasible (now (budgets .entry)) (construction kind (now (periods .entry)) pivot) ⌝ }
 {
     match kind {
-        Kind::Sr2 => sr_holds(2, periods, budgets, pivot),
-        Kind::Sr3 => sr_holds(3, periods, budgets, pivot),
+        Kind::Sr2 => sr_feasible(2, periods, budgets, pivot),
+        Kind::Sr3 => sr_feasible(3, periods, budgets, pivot),
         Kind::Dct => passes(dct(periods, pivot), budgets),
     }
 }
@@ -281,7 +281,7 @@ fn round(kind: Kind, periods: &[u16], budgets: &[u16]) -> Outcome
 {
     let mut i = 0;
     while i < periods.len() {
-        if trial_holds(kind, periods, budgets, i) {
+        if trial_feasible(kind, periods, budgets, i) {
             return Outcome {
                 passes: true,
                 figures: construct(kind, periods, i),

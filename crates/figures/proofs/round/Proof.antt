@@ -8,7 +8,7 @@ use Rattle.figures.proofs.round.Reads as reads
 use Rattle.figures.proofs.round.Lts as lts
 use Rattle.figures.proofs.construct.Reads as construct-reads
 use Rattle.figures.proofs.nothing.Reads as nothing-reads
-use Rattle.figures.proofs.trial_holds.Reads as trial-holds-reads
+use Rattle.figures.proofs.trial_feasible.Reads as trial-feasible-reads
 
 abbrev Inv-loop : tie.InvT-loop
 Inv-loop kind periods budgets i₀ i = (i ≤ length periods) × RoundLoop kind periods budgets i
@@ -19,8 +19,8 @@ abbrev μ-loop : tie.MeasureT-loop
 loop-holds : tie.Need-loop-holds Inv-loop μ-loop
 loop-holds c = search (round-start, needs)
 
-trial-holds-requires : tie.Need-trial-holds-requires Inv-loop μ-loop
-trial-holds-requires c κs = (search (round-ready, needs), search (even, needs))
+trial-feasible-requires : tie.Need-trial-feasible-requires Inv-loop μ-loop
+trial-feasible-requires c κs = (search (round-ready, needs), search (even, needs))
 
 construct-requires : tie.Need-construct-requires Inv-loop μ-loop
 construct-requires c κs = search (round-ready, needs)
@@ -50,7 +50,7 @@ round-spec =
     Inv-loop
     μ-loop
     loop-holds
-    trial-holds-requires
+    trial-feasible-requires
     construct-requires
     returns
     add-i

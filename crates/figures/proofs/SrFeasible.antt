@@ -15,15 +15,15 @@ use Rattle.fit.specs.Lists.{at}
 use Rattle.figures.specs.Constructions.{Acceleration, Power, leastPower, largestPower, sr}
 use Rattle.figures.specs.Meaning.{Sound}
 use Rattle.figures.specs.Passing.{passes, inRange}
-use Rattle.figures.specs.Steps.{Ready, Usable, holds}
+use Rattle.figures.specs.Steps.{Ready, Usable, feasible}
 use Rattle.figures.proofs.Sound.{factors-length, factors-at, factors-rise, factors-bound, in-range, range-divisor, range-factors}
 use Rattle.figures.proofs.Ranges.{periods, pivot-high}
 use Rattle.figures.proofs.LoadLoop.{LoadLoop, load-start, load-turn, load-over, load-end}
 use Rattle.figures.proofs.SrLoop.{SrLoop, sr-start, whole, limit-small-from, power-fits-from, factor-from, factor-is}
 
--- what is out of range does not hold
-out-of-range : (es : List ℕ) (a : Acceleration) → (inRange a ≡ true → ⊥) → false ≡ holds es a
-unfolding holds
+-- what is out of range is not feasible
+out-of-range : (es : List ℕ) (a : Acceleration) → (inRange a ≡ true → ⊥) → false ≡ feasible es a
+unfolding feasible
 out-of-range es a h = by (inRange a) refl
   where
     by : (t : Bool) → inRange a ≡ t → false ≡ (t && passes es a)
@@ -76,10 +76,10 @@ module _ (b : ℕ) (ps : List ℕ) (c q x d : ℕ) (two : 2 ≤ b) (three : b �
           record { fits = omega arith }
 
       -- a pivot with a figure above 120,000 is skipped
-      pub skip-divisor : (es : List ℕ) → 120000 < d → false ≡ holds es (sr b ps c)
+      pub skip-divisor : (es : List ℕ) → 120000 < d → false ≡ feasible es (sr b ps c)
       skip-divisor es h = out-of-range es (sr b ps c) (λ r. let most : d ≤ 120000 = rw (begin .divisor) (range-divisor (sr b ps c) r) in omega arith)
 
-      pub skip-last : (es : List ℕ) (t : ℕ) → 120000 ≤ t → t < L → false ≡ holds es (sr b ps c)
+      pub skip-last : (es : List ℕ) (t : ℕ) → 120000 ≤ t → t < L → false ≡ feasible es (sr b ps c)
       skip-last es t k h =
           out-of-range es (sr b ps c)
           (λ r. let most : L ≤ 120000 = rw last-is (range-factors (sr b ps c) r (length ps - 1) (rw size (omega (arith, not-empty)))) in omega arith)
@@ -109,11 +109,11 @@ module _ (b : ℕ) (ps es : List ℕ) (c q d L limit total m i : ℕ) (s : SrLoo
   pub place-inside : i < length ps → i < length es
   place-inside h = rw (← l .same) h
 
-  passing : passes es (record { Q = sr b ps c .Q; D = d; factors = sr b ps c .factors }) ≡ holds es (sr b ps c)
-  unfolding holds
+  passing : passes es (record { Q = sr b ps c .Q; D = d; factors = sr b ps c .factors }) ≡ feasible es (sr b ps c)
+  unfolding feasible
   passing = rw (l .range, s .divisor)
 
-  pub load-done : i ≤ length ps → length ps ≤ i → true ≡ holds es (sr b ps c)
+  pub load-done : i ≤ length ps → length ps ≤ i → true ≡ feasible es (sr b ps c)
   load-done h k = load-end es (sr b ps c .factors) d (l .usable) q (sr b ps c .Q) (s .pivot) total i (rw (← l .full) (l .load)) (rw (← l .same) h) (rw (← l .same) k) ∙ passing
 
   module _ (x : ℕ) (h : i < length ps) (e : x ≡ at ps i) (v : ℕ) (g : v ≡ largestPower b q (x * d)) where
@@ -127,5 +127,5 @@ module _ (b : ℕ) (ps es : List ℕ) (c q d L limit total m i : ℕ) (s : SrLoo
       pub load-on : total + t ≤ limit → SrLoad b ps es c q d L limit (total + t) (i + 1)
       load-on z = record { same = l .same; last = l .last; full = l .full; range = l .range; usable = l .usable; load = load-turn es (sr b ps c .factors) d _ limit total i (l .load) t y k part z }
 
-      pub load-broken : limit < total + t → false ≡ holds es (sr b ps c)
+      pub load-broken : limit < total + t → false ≡ feasible es (sr b ps c)
       load-broken z = load-over es (sr b ps c .factors) d (l .usable) q (sr b ps c .Q) (s .pivot) total i (rw (← l .full) (l .load)) t y (place-inside h) k part (rw (l .full) at z) ∙ passing

@@ -4,11 +4,11 @@ use lib.ListN.{length}
 use Rattle.figures.proofs.Ranges.{ranges}
 use Rattle.figures.proofs.LoadLoop.{total-fits}
 use Rattle.figures.proofs.SrLoop.{SrLoop, sr-start, pivot-positive, limit-small, limit-fits, power-fits, factor-fits, sr-turn}
-use Rattle.figures.proofs.SrHolds.{SrLoad, one-power, full-fits, last-small, last-product, last-fits, skip-divisor, skip-last, load-begin, last-most, last-cast, factor-low, load-on, load-broken, load-done}
-use Rattle.figures.proofs.sr_holds.Statement.{statement}
-use Rattle.figures.proofs.sr_holds.Tie as tie
-use Rattle.figures.proofs.sr_holds.Reads as reads
-use Rattle.figures.proofs.sr_holds.Lts as lts
+use Rattle.figures.proofs.SrFeasible.{SrLoad, one-power, full-fits, last-small, last-product, last-fits, skip-divisor, skip-last, load-begin, last-most, last-cast, factor-low, load-on, load-broken, load-done}
+use Rattle.figures.proofs.sr_feasible.Statement.{statement}
+use Rattle.figures.proofs.sr_feasible.Tie as tie
+use Rattle.figures.proofs.sr_feasible.Reads as reads
+use Rattle.figures.proofs.sr_feasible.Lts as lts
 use Rattle.figures.proofs.largest_power.Reads as largest-power-reads
 use Rattle.figures.proofs.least_power.Reads as least-power-reads
 use Rattle.figures.proofs.share.Reads as share-reads
@@ -153,8 +153,8 @@ loop-again c =
 returns-4 : tie.Need-returns-4 Inv-loop μ-loop
 returns-4 c = search (load-done, needs)
 
-pub sr-holds-spec : {M : Type 1} → statement M
-sr-holds-spec =
+pub sr-feasible-spec : {M : Type 1} → statement M
+sr-feasible-spec =
     tie.close
     (tie.spec
     Inv-loop
