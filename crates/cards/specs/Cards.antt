@@ -1,5 +1,5 @@
 -- The bench cards A to U, small inputs each with what it must give, and the listings of B, C and P, as one table about the definitions
--- (docs/SHEET.md, sections 4 to 8). N to Q, S and U are our own, worked out by hand from sections 3 to 5 and 8.
+-- (docs/SHEET.md, sections 4 to 8). N to Q and S to U are in no paper; all but T were worked out by hand.
 use Prim.Native.Nat.{ℕ, _/_, _%_}
 use Prim.Native.String.{String}
 use mathlib.Core.Path.{_≡_}
@@ -219,7 +219,7 @@ pub record Cards : Type 0 where
   pub D : verdict (listed 6 5) ≡ checker.refused 12 2
   pub E : verdict (listed 6 3) ≡ checker.refused 13 2
   pub F : verdict seven ≡ checker.refused 1 0
-  -- the figures are those of Sr with the first task as pivot
+  -- the figures are those of Sr on base 2 with the first task as pivot
   pub G :
       (plan jobsG ≡ record { answer = planner.written 3 1 46; pivot = 2; divisor = 1; factors = 1 ∷ 4 ∷ 8 ∷ []; w = 2 ∷ 8 ∷ 16 ∷ [] })
       × (sr 2 (2 ∷ 11 ∷ 17 ∷ []) 0 ≡ record { Q = 2; D = 1; factors = 1 ∷ 4 ∷ 8 ∷ [] })
@@ -229,7 +229,7 @@ pub record Cards : Type 0 where
   pub K : onSheet (sheetOf jobsI) logK ≡ run logK
   pub L : onBench jobsL logL ≡ run logL
   pub M : ring (7 ∷ 16 ∷ 21 ∷ []) 3 ≡ 16 ∷ 21 ∷ 7 ∷ []
-  -- The ring is 1, 2, 0. From start 1 the walk is 2, 0, 1: tasks 2 and 0 pass together by Sr with pivot 5, and task 1 gets a new core.
+  -- The ring is 1, 2, 0. From start 1 the walk is 2, 0, 1: tasks 2 and 0 pass together by Sr on base 2 with pivot 5, and task 1 gets a new core.
   -- From start 0 tasks 1 and 2 pass together with pivot 4, and task 0 gets a new core.
   pub N :
       (planOutcome jobsN 2 1 712 ≡ planner.written 3 2 54)

@@ -1,4 +1,5 @@
-// Runs the cards of specs/Cards.antt through the code and prints one line for each, then the listing of the sheets of B, C and P.
+// Runs the cards of specs/Cards.antt, but for U, which is about the definition of the trials, through the code and prints a line for each
+// (three for R, one a start), then the listing of the sheets of B, C and P.
 ghost use Prim.Native.Nat.{_+_, _*_, _≤_};
 ghost use mathlib.Core.Path.{_≡_};
 ghost use lib.ListN.{length};

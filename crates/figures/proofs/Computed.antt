@@ -1,9 +1,8 @@
 -- Trials and figures of some periods, computed.
 -- Assumes nothing.
-use Prim.Native.Nat.{ℕ}
 use mathlib.Core.Path.{_≡_, refl}
 use mathlib.Core.Option.{some}
-use mathlib.Core.List.{List, [], _∷_, map}
+use mathlib.Core.List.{[], _∷_, map}
 use Rattle.fit.specs.Lists.{numbers, sum, select}
 use Rattle.fit.specs.Rounding.{ceiling}
 use Rattle.fit.specs.Fits.{lastFactor, load, overloaded}

@@ -1,11 +1,11 @@
 -- When a figure of Sr on base 3 is above 120,000, and that such a pivot would not pass.
 -- Assumes nothing.
-use Prim.Native.Nat.{ℕ, zero, suc, _+_, _-_, _*_, _/_, _^_, _≤_, _<_}
-use mathlib.Core.Path.{_≡_, refl, sym, ap, ap₂, _∙_}
+use Prim.Native.Nat.{ℕ, suc, _+_, _-_, _*_, _/_, _^_, _≤_, _<_}
+use mathlib.Core.Path.{_≡_, refl, sym, ap, _∙_}
 use mathlib.Core.Bool.{Bool, true, false, cond, true≢false}
 use mathlib.Core.Option.{some}
 use mathlib.Core.List.{List, [], _∷_, _++_}
-use native.Mathlib.Nat.{mul-one, mul-comm, mul-left-comm, mul-assoc, mul-le-mul, mul-le-mul-left, mul-le-mul-right, mul-lt-mul-of-pos-left, le-of-mul-le-mul-left, le-trans, div-one}
+use native.Mathlib.Nat.{mul-comm, mul-le-mul, mul-le-mul-right, mul-lt-mul-of-pos-left, le-of-mul-le-mul-left, le-trans, div-one}
 use native.Mathlib.Decide.{decLe}
 use native.Mathlib.Omega.{arith}
 use borrow.Author.Tests.{lt-ltb}
@@ -68,7 +68,7 @@ module _ (ps : List ℕ) (i : ℕ) (r : Rising 1 ps) (h : i < length ps) where
   pub skipped-first : inRange (sr 3 ps i) ≡ false → at ps 0 ≡ 1
   skipped-first out = omega (arith, skipped-apart out, rising-at 1 ps r 0 (omega arith), rising-at 1 ps r (length ps - 1) (omega arith))
 
--- a divisor or factor above 120,000 has a pivot below the divisor: the first accelerated period is below 1
+-- where the divisor or a factor is above 120,000, the pivot is below the divisor: the first accelerated period is below 1
 pivot-below : (b : ℕ) (ps : List ℕ) (a : Acceleration) → Rising 1 ps → Sound b ps a → inRange a ≡ false → a .Q < a .D
 pivot-below b ps a r s out = by (decLe (a .D) (a .Q))
   where

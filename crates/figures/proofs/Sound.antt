@@ -1,4 +1,5 @@
--- What both constructions give: every task accelerated, factors in a chain from 1, and figures in range.
+-- What Sr on a base b gives, and DCT with b = 2: every task accelerated, factors in a chain from 1, divisor and factors below b × 60,000;
+-- and when figures are in range.
 -- Assumes nothing.
 use Prim.Native.Nat.{ℕ, zero, suc, _*_, _≤_, _<_}
 use mathlib.Core.Path.{_≡_, refl, ap, _∙_}
@@ -118,7 +119,7 @@ module _ (a : Acceleration) where
   unfolding inRange
   range-factors h i q = at-most-at 120000 (a .D ∷ a .factors) h (suc i) (omega arith)
 
--- on base 2 all is in range
+-- what is sound on base 2 is in range
 pub two-in-range : (ps : List ℕ) (a : Acceleration) → Rising 1 ps → Sound 2 ps a → inRange a ≡ true
 two-in-range ps a r s =
     in-range a (le-of-lt (divisor-bound 2 ps a s)) (λ i h. le-of-lt (factors-bound 2 ps a r s i (rw (factors-length (a .Q) (a .D) 1 ps (a .factors) (s .factors)) at h)))

@@ -2,13 +2,11 @@
 -- Assumes nothing.
 use Prim.Native.Nat.{ℕ, _+_, _-_, _*_, _/_, _≤_, _<_, zero-le}
 use mathlib.Core.Path.{_≡_, refl, sym, ap, _∙_}
-use mathlib.Core.Bool.{Bool, true, false, _&&_, and-false}
-use mathlib.Core.List.{List, _∷_}
+use mathlib.Core.Bool.{Bool, true, false, _&&_}
+use mathlib.Core.List.{List}
 use native.Mathlib.Nat.{pow-zero, mul-le-mul, mul-le-mul-right, le-trans}
 use native.Mathlib.Omega.{arith}
-use borrow.Author.Tests.{lt-leb}
 use lib.ListN.{length}
-use lib.Dec.{leb}
 use mir.Syntax.{w32, w64}
 use mir.Val.{Fits}
 use Rattle.fit.specs.Lists.{at}
@@ -16,8 +14,9 @@ use Rattle.figures.specs.Constructions.{Acceleration, Power, leastPower,
 use Rattle.figures.specs.Meaning.{Sound}
 use Rattle.figures.specs.Passing.{passes, inRange}
 use Rattle.figures.specs.Steps.{Ready, Usable, feasible}
-use Rattle.figures.proofs.Sound.{factors-length, factors-at, factors-rise, factors-bound, in-range, range-divisor, range-factors}
+use Rattle.figures.proofs.Sound.{factors-length, factors-at, factors-rise, factors-bound, in-range, range-factors}
 use Rattle.figures.proofs.Ranges.{periods, pivot-high}
+use Rattle.figures.proofs.SrLaws.{sr-divisor}
 use Rattle.figures.proofs.LoadLoop.{LoadLoop, load-start, load-turn, load-over, load-end}
 use Rattle.figures.proofs.SrLoop.{SrLoop, sr-start, whole, limit-small-from, power-fits-from, factor-from, factor-is}
 
@@ -76,18 +75,16 @@ module _ (b : ℕ) (ps : List ℕ) (c q x d : ℕ) (two : 2 ≤ b) (three : b �
           record { fits = omega arith }
 
       -- a pivot with a figure above 120,000 is skipped
-      pub skip-divisor : (es : List ℕ) → 120000 < d → false ≡ feasible es (sr b ps c)
-      skip-divisor es h = out-of-range es (sr b ps c) (λ r. let most : d ≤ 120000 = rw (begin .divisor) (range-divisor (sr b ps c) r) in omega arith)
-
       pub skip-last : (es : List ℕ) (t : ℕ) → 120000 ≤ t → t < L → false ≡ feasible es (sr b ps c)
       skip-last es t k h =
           out-of-range es (sr b ps c)
           (λ r. let most : L ≤ 120000 = rw last-is (range-factors (sr b ps c) r (length ps - 1) (rw size (omega (arith, not-empty)))) in omega arith)
 
-      pub load-begin : (es : List ℕ) → length ps ≡ length es → d ≤ 120000 → L ≤ 120000 → SrLoad b ps es c q d L (q * L) 0 0
-      load-begin es n h k =
+      pub load-begin : (es : List ℕ) → length ps ≡ length es → L ≤ 120000 → SrLoad b ps es c q d L (q * L) 0 0
+      load-begin es n k =
           let s : Sound b ps (sr b ps c) = whole b ps c q d 1 0 begin in
           let high : (i : ℕ) → i < length ps → at (sr b ps c .factors) i ≤ 120000 = λ i j. le-trans (rw last-is (factors-rise _ _ 1 ps _ (s .factors) i (length ps - 1) (omega arith) (omega arith))) k in
+          let h : d ≤ 120000 = rw (begin .divisor) (le-trans (sr-divisor b two ps c (periods ps c r) (r .inside)) (high c (r .inside))) in
           let here : L ≡ at (sr b ps c .factors) (length es - 1) = rw n at last-is in
           let u : Usable d (sr b ps c .factors) (length es) = record { some = omega arith; few = rw n at (r .size); divisor = h; factors = λ i j. (factors-at _ _ 1 ps _ (s .factors) i (rw n j) .1, high i (rw n j)) } in
           record {

@@ -4,7 +4,7 @@
 use Prim.Native.Nat.{ℕ, zero, suc, _+_, _-_, _*_, _^_, _≤_, _<_, zero-le}
 use mathlib.Core.Path.{_≡_, refl, sym, ap, _∙_}
 use mathlib.Core.List.{List, [], _∷_, map}
-use native.Mathlib.Nat.{mul-one, one-mul, mul-comm, mul-assoc, mul-left-comm, mul-right-comm, pow-zero, pow-suc, mul-le-mul, mul-le-mul-left, mul-le-mul-right, mul-lt-mul-of-pos-left, le-of-mul-le-mul-right, lt-of-mul-lt-mul-left, le-trans, le-refl, add-sub-of-le}
+use native.Mathlib.Nat.{mul-one, mul-comm, mul-assoc, mul-left-comm, mul-right-comm, pow-zero, pow-suc, mul-le-mul, mul-le-mul-left, mul-le-mul-right, mul-lt-mul-of-pos-left, le-of-mul-le-mul-right, lt-of-mul-lt-mul-left, le-trans, le-refl, add-sub-of-le}
 use native.Mathlib.Decide.{decLe}
 use native.Mathlib.Omega.{arith}
 use lib.ListN.{length}
@@ -146,3 +146,12 @@ module _ (b : ℕ) (two : 2 ≤ b) where
       let reach : at ps 0 * D ≤ at ps k * D = mul-le-mul-right D (rising-pair 1 ps r 0 k zero-le g) in
       rw (at-map (λ p. largestPower b q (p * D)) ps k g)
       (multiplier q (at ps k) (at ps 0) D (largestPower b q (at ps k * D)) d (largest-power b two q (at ps k * D) pos (le-trans (d .reaches) reach)))
+
+  -- the pivot's own factor is not below the divisor
+  pub sr-divisor : (ps : List ℕ) (i : ℕ) → Rising 1 ps → i < length ps → sr b ps i .D ≤ at (sr b ps i .factors) i
+  unfolding sr
+  sr-divisor ps i r h =
+      let D : ℕ = sr b ps i .D in
+      let M : ℕ = at (sr b ps i .factors) i in
+      let once : 1 * D ≤ M * 1 = rw (pow-zero b) at (sr-multiplier ps i r h i h .largest 0 0 (le-refl _)) in
+      omega arith

@@ -1,28 +1,23 @@
--- The factors of Sr, step by step as the code goes: stored, or with the load alone.
+-- The factors of Sr, step by step as the code goes, and stored.
 -- Assumes nothing.
-use Prim.Native.Nat.{ℕ, _+_, _-_, _*_, _≤_, _<_, zero-le}
-use mathlib.Core.Path.{_≡_, sym, ap, ap₂, _∙_}
-use mathlib.Core.Bool.{Bool, true, false, _&&_, and-false}
-use mathlib.Core.List.{List, _∷_}
+use Prim.Native.Nat.{ℕ, _+_, _*_, _≤_, _<_, zero-le}
+use mathlib.Core.Path.{_≡_, sym, ap₂, _∙_}
+use mathlib.Core.List.{List}
 use native.Mathlib.Nat.{pow-zero, mul-le-mul, mul-le-mul-right, le-refl, le-trans, lt-of-lt-of-le, le-of-lt}
 use native.Mathlib.Omega.{arith}
-use borrow.Author.Tests.{lt-leb}
-use lib.ListN.{length, set, replicate, length-map}
-use lib.Dec.{leb}
+use lib.ListN.{length, set, length-map}
 use mir.Syntax.{w32, w64}
 use mir.Val.{Fits}
 use Rattle.fit.specs.Lists.{at}
 use Rattle.figures.specs.Constructions.{Power, leastPower, largestPower, sr}
 use Rattle.figures.specs.Meaning.{Rising, Multiplier, Sound}
-use Rattle.figures.specs.Passing.{passes, inRange}
-use Rattle.figures.specs.Steps.{Ready, Usable, feasible}
+use Rattle.figures.specs.Steps.{Ready}
 use Rattle.figures.specs.Answers.{written}
 use Rattle.figures.proofs.Lists.{at-map}
-use Rattle.figures.proofs.Sound.{rising-pair, factors-at, factors-rise, divisor-bound, factors-bound, in-range, range-divisor, range-factors}
+use Rattle.figures.proofs.Sound.{rising-pair, divisor-bound, factors-bound}
 use Rattle.figures.proofs.Ranges.{periods, period-high}
 use Rattle.figures.proofs.SrLaws.{sr-sound, sr-multiplier}
-use Rattle.figures.proofs.Filling.{Filled, filled-start, filled-turn, filled-end}
-use Rattle.figures.proofs.LoadLoop.{LoadLoop, load-start, load-turn, load-over, load-end}
+use Rattle.figures.proofs.Filling.{Filled, filled-turn, filled-end}
 
 -- m is a power that fits every period from place i on
 pub record SrLoop (b : ℕ) (ps : List ℕ) (c q d m i : ℕ) : Type 0 where

@@ -207,7 +207,8 @@ fn passes(f: CoreFigures, budgets: &[u16]) -> bool
     true
 }
 
-// Whether Sr on a base, with the task at place `pivot` as pivot, is in range and passes; no figure is stored.
+// Whether Sr on a base, with the task at place `pivot` as pivot, is in range and passes; no figure is stored. The last factor is the largest,
+// and not below the divisor.
 fn sr_feasible(base: u64, periods: &[u16], budgets: &[u16], pivot: usize) -> bool
     requires { ⌜ (2 ≤ base) × (base ≤ 3) × Ready (now periods) pivot × (length (now periods) ≡ length (now budgets)) ⌝ }
     ensures { λ r. ⌜ r ≡ feasible (now (budgets .entry)) (srOf base (now (periods .entry)) pivot) ⌝ }
@@ -216,9 +217,6 @@ fn sr_feasible(base: u64, periods: &[u16], budgets: &[u16], pivot: usize) -> boo
     let q = wide(periods[pivot]);
     let d = least_power(base, q, wide(periods[0]));
     let last = largest_power(base, q, wide(periods[n - 1]) * d, 1);
-    if 120_000 < d {
-        return false;
-    }
     if 120_000 < last {
         return false;
     }

@@ -43,7 +43,7 @@ pub fn round(session: &mut Session, rng: &mut Rng) {
         let (limit, start) = (any_number(rng, 9), any_number(rng, length as u64 / 4));
         plan(session, rng, &list, limit, start, 712);
     }
-    // short lists, on as many cores as they need
+    // short lists, on up to 8 cores
     for _ in 0..300 {
         let count = rng.range(1, 10);
         let list = job_list(rng, count as usize);

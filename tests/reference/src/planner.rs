@@ -1,4 +1,5 @@
-//! The planner: first fit round the ring, each core by Sr or DCT.
+//! The planner: first fit round the ring, each core by Sr on base 2, Sr on
+//! base 3 or DCT.
 
 use crate::jobs::{self, Job};
 use crate::sheet::{load, CoreRecord, Sheet, TaskRecord, LONGEST_SHEET};

@@ -55,6 +55,7 @@ fn jobs_in_thirds() {
         assert_eq!(one_core(&ROUNDS, &jobs, start), Ok((2, 1, vec![1, 9, 27])));
         assert_eq!(one_core(&ROUNDS_OF_01, &jobs, start), Err((15, refused)));
     }
+    assert_eq!(cores(&ROUNDS_OF_01, &jobs), Ok(2));
 }
 
 /// Without base 3 these jobs take two cores.
@@ -81,7 +82,7 @@ fn tried(periods: &[u64]) -> Vec<(Construction, u64)> {
 }
 
 #[test]
-fn skipped_by_the_divisor() {
+fn skipped_by_divisor_and_factor() {
     let periods = [1, 60_000];
     let accelerated = [Fraction::new(60_000, 177_147), Fraction::whole(60_000)];
     assert_eq!(sr(3, &periods, 1), accelerated);
@@ -107,12 +108,29 @@ fn skipped_by_a_factor() {
     assert_eq!(tried(&periods), not_skipped);
 }
 
-/// Base 3 comes before DCT, also where it gives lower factors.
+/// Base 3 comes before DCT, also where it gives lower factors, and so a smaller
+/// w and a higher load.
 #[test]
 fn other_factors() {
     let jobs = [(2, 1), (6, 2), (12, 1)];
     assert_eq!(one_core(&ROUNDS_OF_01, &jobs, 0), Ok((2, 1, vec![1, 3, 6])));
     assert_eq!(one_core(&ROUNDS, &jobs, 0), Ok((2, 1, vec![1, 3, 3])));
+
+    let last_lines = |rounds| {
+        let sheet = planned(rounds, &jobs, 1, 0).expect("the jobs fit");
+        let text = String::from_utf8(list(&sheet.write())).expect("ASCII");
+        text.lines().skip(3).map(String::from).collect::<Vec<_>>()
+    };
+    let before = [
+        "task 2 core 0 period 12 budget 1 factor 6 within 12",
+        "core 0 pivot 2 divisor 1 load 917",
+    ];
+    let now = [
+        "task 2 core 0 period 12 budget 1 factor 3 within 6",
+        "core 0 pivot 2 divisor 1 load 1000",
+    ];
+    assert_eq!(last_lines(&ROUNDS_OF_01[..]), before);
+    assert_eq!(last_lines(&ROUNDS[..]), now);
 }
 
 /// A core that takes one job more may leave no room for a later one.

@@ -2,7 +2,7 @@
 
 use reference::*;
 
-const SR: Construction = Construction::Sr { base: 2 };
+const SR_2: Construction = Construction::Sr { base: 2 };
 const DCT: Construction = Construction::Dct;
 
 fn fractions(list: [(u128, u128); 3]) -> Vec<Fraction> {
@@ -99,11 +99,11 @@ fn counts(passes: &dyn Fn(u16) -> bool) -> [(u32, u32); 3] {
 
 #[test]
 fn partitions_of_ten_tasks() {
-    let by_either = |set| passes(SR, set) || passes(DCT, set);
+    let by_either = |set| passes(SR_2, set) || passes(DCT, set);
     assert_eq!(counts(&by_either), [(2100, 470), (1575, 12), (2520, 0)]);
     // base 3 adds none
     assert_eq!(counts(&planned), [(2100, 470), (1575, 12), (2520, 0)]);
-    let by_sr = |set| passes(SR, set);
+    let by_sr = |set| passes(SR_2, set);
     assert_eq!(counts(&by_sr), [(2100, 268), (1575, 2), (2520, 0)]);
     let by_dct = |set| passes(DCT, set);
     assert_eq!(counts(&by_dct), [(2100, 462), (1575, 11), (2520, 0)]);

@@ -4,7 +4,7 @@ use lib.ListN.{length}
 use Rattle.figures.proofs.Ranges.{ranges}
 use Rattle.figures.proofs.LoadLoop.{total-fits}
 use Rattle.figures.proofs.SrLoop.{SrLoop, sr-start, pivot-positive, limit-small, limit-fits, power-fits, factor-fits, sr-turn}
-use Rattle.figures.proofs.SrFeasible.{SrLoad, one-power, full-fits, last-small, last-product, last-fits, skip-divisor, skip-last, load-begin, last-most, last-cast, factor-low, load-on, load-broken, load-done}
+use Rattle.figures.proofs.SrFeasible.{SrLoad, one-power, full-fits, last-small, last-product, last-fits, skip-last, load-begin, last-most, last-cast, factor-low, load-on, load-broken, load-done}
 use Rattle.figures.proofs.sr_feasible.Statement.{statement}
 use Rattle.figures.proofs.sr_feasible.Tie as tie
 use Rattle.figures.proofs.sr_feasible.Reads as reads
@@ -58,21 +58,18 @@ largest-power-requires : tie.Need-largest-power-requires Inv-loop μ-loop
 largest-power-requires c κs = (search needs, search needs, search (ranges, needs), search (last-small, needs), search (last-fits, needs), search (one-power, needs))
 
 returns : tie.Need-returns Inv-loop μ-loop
-returns c = search (skip-divisor, needs)
-
-returns-2 : tie.Need-returns-2 Inv-loop μ-loop
-returns-2 c = search (skip-last, needs)
+returns c = search (skip-last, needs)
 
 mul-full : tie.Need-mul-full Inv-loop μ-loop
 mul-full c =
-    let l = c .before .before in
+    let l = c .before in
     let w = l .before .before .before .before in
     let p = w .before .before .before .before .before .before .pre in
     full-fits _ _ _ _ _ _ (p .0) (p .1) (p .2) (w .before .before .wide .ensures .0) (w .wide2 .ensures .0) (l .before .before .before .least-power .ensures) _ (l .before .wide3 .ensures .0) _ (l .largest-power .ensures)
 
 loop-holds : tie.Need-loop-holds Inv-loop μ-loop
 loop-holds c =
-    let l = c .before .before in
+    let l = c .before in
     let w = l .before .before .before .before in
     let p = w .before .before .before .before .before .before .pre in
     let q = w .before .before .wide .ensures .0 in
@@ -80,7 +77,7 @@ loop-holds c =
     let d = l .before .before .before .least-power .ensures in (
       search needs,
       sr-start _ _ _ (p .0) (p .1) (p .2) _ _ _ q x d,
-      load-begin _ _ _ _ _ _ (p .0) (p .1) (p .2) q x d _ (l .before .wide3 .ensures .0) _ (l .largest-power .ensures) _ (p .3) (c .before .if1 .left) (c .if2 .left),
+      load-begin _ _ _ _ _ _ (p .0) (p .1) (p .2) q x d _ (l .before .wide3 .ensures .0) _ (l .largest-power .ensures) _ (p .3) (c .if1 .left),
     )
 
 mul-wide-3 : tie.Need-mul-wide-3 Inv-loop μ-loop
@@ -130,8 +127,8 @@ share-requires c κs =
 add-total : tie.Need-add-total Inv-loop μ-loop
 add-total c = search (total-fits, needs)
 
-returns-3 : tie.Need-returns-3 Inv-loop μ-loop
-returns-3 c = search (load-broken, needs)
+returns-2 : tie.Need-returns-2 Inv-loop μ-loop
+returns-2 c = search (load-broken, needs)
 
 add-i : tie.Need-add-i Inv-loop μ-loop
 add-i c = search needs
@@ -147,11 +144,11 @@ loop-again c =
     let v = c .before .before .before .before .largest-power2 .ensures in (
       search needs,
       sr-turn _ _ _ _ _ _ _ (i .1) _ h x _ v,
-      load-on _ _ _ _ _ _ _ _ _ _ _ (i .1) (i .2) _ h x _ v _ _ (c .before .before .wide5 .ensures .0) (c .before .share .ensures .0) (c .if3 .left),
+      load-on _ _ _ _ _ _ _ _ _ _ _ (i .1) (i .2) _ h x _ v _ _ (c .before .before .wide5 .ensures .0) (c .before .share .ensures .0) (c .if2 .left),
     )
 
-returns-4 : tie.Need-returns-4 Inv-loop μ-loop
-returns-4 c = search (load-done, needs)
+returns-3 : tie.Need-returns-3 Inv-loop μ-loop
+returns-3 c = search (load-done, needs)
 
 pub sr-feasible-spec : {M : Type 1} → statement M
 sr-feasible-spec =
@@ -172,7 +169,6 @@ sr-feasible-spec =
     mul-largest-power
     largest-power-requires
     returns
-    returns-2
     mul-full
     loop-holds
     mul-wide-3
@@ -187,8 +183,8 @@ sr-feasible-spec =
     cast-share-2
     share-requires
     add-total
-    returns-3
+    returns-2
     add-i
     loop-less
     loop-again
-    returns-4)
+    returns-3)
