@@ -40,7 +40,7 @@ module _ (p e : ℕ → ℕ) where
   each-fresh P [] h = tt
   each-fresh P (i ∷ l) h = (h .0, each-fresh P l (h .1))
 
-  fresh-each : (P : Task → Type 0) (l : List ℕ) → Each P (freshTasks p e l) → Each (λ i. P (freshTask (p i) (e i) i)) l
+  pub fresh-each : (P : Task → Type 0) (l : List ℕ) → Each P (freshTasks p e l) → Each (λ i. P (freshTask (p i) (e i) i)) l
   unfolding freshTasks Each
   fresh-each P [] h = tt
   fresh-each P (i ∷ l) h = (h .0, fresh-each P l (h .1))
@@ -73,6 +73,10 @@ module _ (p e : ℕ → ℕ) where
   all-fresh [] = tt
   all-fresh (i ∷ l) = (record { age = refl; left = refl }, all-fresh l)
 
+  -- and have their budgets by number
+  pub fresh-budgets : (l : List ℕ) → Each (λ t. e (t .number) ≡ t .budget) (freshTasks p e l)
+  fresh-budgets l = each-fresh (λ t. e (t .number) ≡ t .budget) l (each-all _ l (λ i. refl))
+
   -- fresh tasks in range, numbered and in priority order are in form
   pub fresh-form : (l : List ℕ) → length l ≤ 64 → Each (λ i. i < 64) l → Each (λ i. (1 ≤ p i) × (p i ≤ 60000)) l → Each (λ i. (1 ≤ e i) × (e i ≤ p i)) l → EachPair (priority.Above p) l → Form (freshTasks p e l)
   unfolding Distinct Above priority.Above
@@ -93,6 +97,29 @@ module _ (p e : ℕ → ℕ) where
       apart i j d (inl x) = omega (arith, ap p d)
       apart i j d (inr x) = omega arith
 
+-- fresh tasks in form, with bounds w by task number of at most their periods, where what each level asks for in w ticks fits in w
+module _ (p e w : ℕ → ℕ) (l : List ℕ) (form : Form (freshTasks p e l)) (bounds : Each (λ i. (1 ≤ w i) × (w i ≤ p i)) l) (room : (xs : List ℕ) (i : ℕ) (ys : List ℕ) → l ≡ xs ++ i ∷ ys → sumOf (rate (w i)) (freshTasks p e (xs ++ i ∷ [])) ≤ w i) where
+  -- the demand test is passed
+  pub fresh-demand : Demand (λ k. 0) w (freshTasks p e l)
+  fresh-demand = record { room = fits; within = upper }
+    where
+      fits : (k : ℕ) → k < length (freshTasks p e l) → 0 + sumOf (rate (w (nth (freshTasks p e l) k .number))) (take (suc k) (freshTasks p e l)) ≤ w (nth (freshTasks p e l) k .number)
+      fits k lt =
+          let lt′ : k < length l = omega (arith, fresh-length p e l) in
+          rw (nth-fresh p e l k lt′, take-fresh p e (suc k) l, take-suc l k 0 lt′) (omega (arith, room (take k l) (getD l k 0) (drop (suc k) l) (split-at l k 0 lt′)))
+
+      upper : (k : ℕ) → k < length (freshTasks p e l) → w (nth (freshTasks p e l) k .number) ≤ nth (freshTasks p e l) k .period
+      upper k lt =
+          let lt′ : k < length l = omega (arith, fresh-length p e l) in
+          rw (nth-fresh p e l k lt′) (each-at (λ i. (1 ≤ w i) × (w i ≤ p i)) 0 l k lt′ bounds .1)
+
+  -- so every log obeys the on-time rule, and with every later bound too
+  pub fresh-on-time : (cs : List Call) → OnTime w e (log answer next (freshTasks p e l) cs)
+  fresh-on-time cs = on-time (λ k. 0) w e (freshTasks p e l) form (all-fresh p e l) fresh-demand (fresh-budgets p e l) cs
+
+  pub fresh-later : (v : ℕ → ℕ) → Each (λ i. w i ≤ v i) l → (cs : List Call) → OnTime v e (log answer next (freshTasks p e l) cs)
+  fresh-later v h cs = on-time-later w v e (log answer next (freshTasks p e l) cs) (fresh-on-time cs) (λ before rest j s. released-listed (λ i. (1 ≤ w i) × (w i ≤ v i)) (freshTasks p e l) (each-fresh p e _ l (each-both l (λ i x y. (x .0, y)) bounds h)) cs before rest j s)
+
 -- the load of a list of numbers is D times the sum over its fresh tasks
 load-fresh : (p e M : ℕ → ℕ) (D m : ℕ) (l : List ℕ) → sumOf (λ t. t .budget * (m / M (t .number))) (freshTasks p e l) * D ≡ load e M D m l
 unfolding load sum sumOf freshTasks
@@ -103,7 +130,7 @@ load-fresh p e M D m (i ∷ l) =
 
 module _ (p e M : ℕ → ℕ) (Q D : ℕ) (l : List ℕ) (h : Schedulable p e M Q D l) where
   -- w by task number
-  abbrev bound : ℕ → ℕ
+  abbrev pub bound : ℕ → ℕ
   bound i = within Q D (M i)
 
   pub schedule-form : Form (freshTasks p e l)
@@ -124,7 +151,7 @@ module _ (p e M : ℕ → ℕ) (Q D : ℕ) (l : List ℕ) (h : Schedulable p e M
   ratios i pos = each-both l (λ j x y. y (x .0)) (h .period) (each-both {R = λ j. 1 ≤ p j → Multiple (M j) (M i) → ratio i j} l (λ j m a x d. releases i j pos x m a d) (h .factor) (h .accelerated))
 
   -- the level of the task at place k has room
-  level-room : (xs : List ℕ) (i : ℕ) (ys : List ℕ) → l ≡ xs ++ i ∷ ys → 0 + sumOf (rate (bound i)) (freshTasks p e (xs ++ i ∷ [])) ≤ bound i
+  pub level-room : (xs : List ℕ) (i : ℕ) (ys : List ℕ) → l ≡ xs ++ i ∷ ys → sumOf (rate (bound i)) (freshTasks p e (xs ++ i ∷ [])) ≤ bound i
   unfolding within Multiple Each ratio
   level-room xs i ys s =
       let level : List ℕ = xs ++ i ∷ [] in
@@ -132,29 +159,19 @@ module _ (p e M : ℕ → ℕ) (Q D : ℕ) (l : List ℕ) (h : Schedulable p e M
       let divides : Each (λ j. Multiple (M j) (M i)) level = each-append (λ j. Multiple (M j) (M i)) xs (i ∷ []) (pairs-before _ xs i ys (subst (EachPair _) s (h .multiples))) ((1, sym (mul-one (M i))), tt) in
       let pos : 1 ≤ bound i = each-between (λ j. 1 ≤ bound j) xs i ys s (each-both l (λ j x y. omega arith) (h .bounds) (h .budget)) in
       let many : Each (ratio i) level = each-both level (λ j d r. r d) divides (each-halves _ level ys (subst (Each _) cut (ratios i pos)) .0) in
-      room-of-load 0 Q D (M i) (λ t. M i / M (t .number)) (freshTasks p e level) (omega (arith, h .divisor)) (each-fresh p e _ level many) (omega (arith, load-fresh p e M D (M i) level, h .level xs i ys s))
-
-  -- the demand test is passed
-  pub schedule-demand : Demand (λ k. 0) bound (freshTasks p e l)
-  schedule-demand = record { room = room; within = upper }
-    where
-      room : (k : ℕ) → k < length (freshTasks p e l) → 0 + sumOf (rate (bound (nth (freshTasks p e l) k .number))) (take (suc k) (freshTasks p e l)) ≤ bound (nth (freshTasks p e l) k .number)
-      room k lt =
-          let lt′ : k < length l = omega (arith, fresh-length p e l) in
-          rw (nth-fresh p e l k lt′, take-fresh p e (suc k) l, take-suc l k 0 lt′) (level-room (take k l) (getD l k 0) (drop (suc k) l) (split-at l k 0 lt′))
-
-      upper : (k : ℕ) → k < length (freshTasks p e l) → bound (nth (freshTasks p e l) k .number) ≤ nth (freshTasks p e l) k .period
-      upper k lt =
-          let lt′ : k < length l = omega (arith, fresh-length p e l) in
-          rw (nth-fresh p e l k lt′) (each-at (λ i. (e i ≤ bound i) × (bound i ≤ p i)) 0 l k lt′ (h .bounds) .1)
+      let room = room-of-load 0 Q D (M i) (λ t. M i / M (t .number)) (freshTasks p e level) (omega (arith, h .divisor)) (each-fresh p e _ level many) (omega (arith, load-fresh p e M D (M i) level, h .level xs i ys s)) in
+      omega (arith, room)
 
   -- so every log of the fresh tasks obeys the on-time rule
+  bounded : Each (λ i. (1 ≤ bound i) × (bound i ≤ p i)) l
+  bounded = each-both l (λ i x y. (omega arith, x .1)) (h .bounds) (h .budget)
+
   pub schedule-on-time : (cs : List Call) → OnTime bound e (log answer next (freshTasks p e l) cs)
-  schedule-on-time cs = on-time (λ k. 0) bound e (freshTasks p e l) schedule-form (all-fresh p e l) schedule-demand (each-fresh p e _ l (each-all _ l (λ i. refl))) cs
+  schedule-on-time cs = fresh-on-time p e bound l schedule-form bounded level-room cs
 
   -- with p for w too
   pub schedule-by-period : (cs : List Call) → OnTime p e (log answer next (freshTasks p e l) cs)
-  schedule-by-period cs = on-time-later bound p e (log answer next (freshTasks p e l) cs) (schedule-on-time cs) (λ before rest j s. released-listed (λ i. (1 ≤ bound i) × (bound i ≤ p i)) (freshTasks p e l) (each-fresh p e _ l (each-both l (λ i x y. (omega arith, x .1)) (h .bounds) (h .budget))) cs before rest j s)
+  schedule-by-period cs = fresh-later p e bound l schedule-form bounded level-room p (each-of l (λ i x. x .1) bounded) cs
 
   -- and each release is answered by the ticks since the last accepted one
   pub schedule-by-history : (cs : List Call) → Each (λ j. ByHistory (p j) j (log answer next (freshTasks p e l) cs) (answer (release j) (run next (freshTasks p e l) cs))) l

@@ -52,7 +52,7 @@ unfolding Level
 level-idle w B r s h p = absurd (omega (arith, work-idle s h))
 
 -- the tick of the first pending task takes one from the work
-work-used : {f : Task → Answer} {d a : Answer} {s s′ : List Task} → 0 < work s → Changed pending used f d s s′ a → work s′ + 1 ≡ work s
+pub work-used : {f : Task → Answer} {d a : Answer} {s s′ : List Task} → 0 < work s → Changed pending used f d s s′ a → work s′ + 1 ≡ work s
 unfolding sumOf pending used withJob
 work-used h nowhere = absurd (omega arith)
 work-used h (here {t} e) = omega (arith, ltb-true 0 (t .left) e)
@@ -60,7 +60,7 @@ work-used h (later {t} {s} e c) =
     let z : t .left ≤ 0 = ltb-false 0 (t .left) e in
     omega (arith, work-used {s = s} (omega arith) c)
 
-work-older : (s : List Task) → work (map older s) ≡ work s
+pub work-older : (s : List Task) → work (map older s) ≡ work s
 unfolding older withJob
 work-older s = sum-map (λ t. t .left) older s
 
@@ -94,7 +94,7 @@ work-finish : (j : ℕ) (s : List Task) → work (next (finish j) s) ≤ work s
 unfolding next withJob
 work-finish j s = sum-less (λ t. t .left) (λ t. finished-cases (λ u. u .left ≤ t .left) t (omega arith) (λ p. omega arith)) (changed-named j finished finishAnswer s)
 
-work-tick : (s : List Task) → work (next tick s) ≤ work s
+pub work-tick : (s : List Task) → work (next tick s) ≤ work s
 unfolding next used withJob
 work-tick s = rw work-older (sum-less (λ t. t .left) (λ t. omega arith) (changed-pending used s))
 

@@ -102,7 +102,7 @@ module _ (B w e : ℕ → ℕ) where
   timely s i g p = level-timely _ (B i) 0 s i p (g .levels i (pending-place s i p))
 
   -- so its age is below its period
-  young : (s : List Task) (i : ℕ) → Good B w e s → 0 < nth s i .left → nth s i .age < nth s i .period
+  pub young : (s : List Task) (i : ℕ) → Good B w e s → 0 < nth s i .left → nth s i .age < nth s i .period
   young s i g p = omega (arith, timely s i g p, g .demand .within i (pending-place s i p))
 
   moves : (c : Call) (s : List Task) (i : ℕ) → Good B w e s → 0 < nth s i .left → (1 ≤ count (isFinish (nth s i .number)) (entry c (answer c s) ∷ [])) ⊎ Goes (entry c (answer c s)) (nth s i) (nth (next c s) i)

@@ -63,8 +63,12 @@ isRefused n (entry c a) = refusedWith n a
 unfoldable pub Ended : ℕ → ℕ → List Entry → Type 0
 Ended e j l = (e ≤ count (isRun j) l) ⊎ (1 ≤ count (isFinish j) l)
 
--- The rule for a whole log, with w and e by task number. Wherever a release of j was accepted and w ticks follow it, the job has
--- ended by the w-th of them; and no call is refused as Late (19).
+-- The rule for a whole log, with w and e by task number. Wherever a release of j was accepted and w ticks follow it, the job has ended by
+-- the w-th of them;
+abbrev pub EndsWithin : (ℕ → ℕ) → (ℕ → ℕ) → List Entry → Type 0
+EndsWithin w e l = (before xs rest : List Entry) (j : ℕ) (a : Answer) → l ≡ before ++ entry (release j) accepted ∷ (xs ++ entry tick a ∷ rest) → count isTick xs + 1 ≡ w j → Ended (e j) j (xs ++ entry tick a ∷ [])
+
+-- and no call is refused as Late (19).
 pub record OnTime (w e : ℕ → ℕ) (l : List Entry) : Type 0 where
-  pub ends : (before xs rest : List Entry) (j : ℕ) (a : Answer) → l ≡ before ++ entry (release j) accepted ∷ (xs ++ entry tick a ∷ rest) → count isTick xs + 1 ≡ w j → Ended (e j) j (xs ++ entry tick a ∷ [])
+  pub ends : EndsWithin w e l
   pub never-late : count (isRefused 19) l ≡ 0

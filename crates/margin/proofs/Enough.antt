@@ -1,0 +1,59 @@
+-- Where every task of a list has a t within its period that meets its demand, every run from the fresh tasks is on time.
+-- Assumes nothing.
+use Prim.Native.Nat.{ℕ, _+_, _*_, _≤_}
+use mathlib.Core.Path.{_≡_, refl, sym, subst, _∙_}
+use mathlib.Core.List.{List, [], _∷_, _++_}
+use native.Mathlib.Nat.{mul-one}
+use lib.Seq.{append-snoc}
+use native.Mathlib.Omega.{arith}
+use Rattle.fit.specs.Lists.{sum, Each}
+use Rattle.fit.specs.Rounding.{ceiling}
+use Rattle.fit.proofs.Lists.{each-halves, each-split, sum-append}
+use Rattle.timing.specs.Calls.{Call, answer, next, log}
+use Rattle.timing.specs.Form.{Form}
+use Rattle.timing.specs.OnTime.{OnTime}
+use Rattle.timing.proofs.Rate.{sumOf, rate}
+use Rattle.timing.proofs.Demand.{Demand}
+use Rattle.dispatcher.specs.Starts.{freshTasks}
+use Rattle.dispatcher.proofs.Schedule.{fresh-demand, fresh-later}
+use Rattle.margin.specs.Margin.{request}
+use Rattle.margin.proofs.Rounds.{ceiling-one, ceiling-window}
+use Rattle.margin.proofs.Demands.{Fits}
+
+module _ (p e : ℕ → ℕ) where
+  -- what a task i below the tasks xs asks for in t ticks, with all of them
+  unfoldable pub level : List ℕ → ℕ → ℕ → ℕ
+  level xs i t = e i + sum (request p e t) xs
+
+  rate-fresh : (w : ℕ) (l : List ℕ) → 1 ≤ w → Each (λ i. 1 ≤ p i) l → sumOf (rate w) (freshTasks p e l) ≡ sum (request p e w) l
+  unfolding sumOf sum rate request freshTasks Each
+  rate-fresh w [] pos h = refl
+  rate-fresh w (i ∷ l) pos h = rw (ceiling-window (p i) (h .0) w pos, rate-fresh w l pos (h .1))
+
+  -- in a window of at most its period the task itself asks for its budget once
+  pub level-window : (w : ℕ) (l xs : List ℕ) (i : ℕ) (ys : List ℕ) → 1 ≤ w → w ≤ p i → Each (λ j. 1 ≤ p j) l → l ≡ xs ++ i ∷ ys → sumOf (rate w) (freshTasks p e (xs ++ i ∷ [])) ≡ level xs i w
+  unfolding level sum request
+  level-window w l xs i ys pos h periods s =
+      let k = each-halves _ (xs ++ i ∷ []) ys (subst (Each _) (s ∙ sym (append-snoc xs i ys)) periods) .0 in
+      let own : e i * ceiling w (p i) ≡ e i = rw (ceiling-one (p i) (omega arith) w pos h) (mul-one (e i)) in
+      omega (arith, rate-fresh w (xs ++ i ∷ []) pos k, sum-append (request p e w) xs (i ∷ []), own)
+
+-- each task of the list meets the demand of its level at its w, which is within its period
+abbrev pub EachFits : (p e w : ℕ → ℕ) → List ℕ → Type 0
+EachFits p e w l = (xs : List ℕ) (i : ℕ) (ys : List ℕ) → l ≡ xs ++ i ∷ ys → Fits (level p e xs i) (p i) (w i)
+
+module _ (p e w : ℕ → ℕ) (l : List ℕ) (form : Form (freshTasks p e l)) (periods : Each (λ i. 1 ≤ p i) l) (fits : EachFits p e w l) where
+  bounds : Each (λ i. (1 ≤ w i) × (w i ≤ p i)) l
+  bounds = each-split _ l (λ xs i ys s. (fits xs i ys s .from, fits xs i ys s .to))
+
+  room : (xs : List ℕ) (i : ℕ) (ys : List ℕ) → l ≡ xs ++ i ∷ ys → sumOf (rate (w i)) (freshTasks p e (xs ++ i ∷ [])) ≤ w i
+  room xs i ys s =
+      let f = fits xs i ys s in
+      omega (arith, level-window p e (w i) l xs i ys (f .from) (f .to) periods s, f .enough)
+
+  -- the demand test is passed, and every log obeys the on-time rule with w and with every later bound
+  pub fits-demand : Demand (λ k. 0) w (freshTasks p e l)
+  fits-demand = fresh-demand p e w l form bounds room
+
+  pub fits-on-time : (v : ℕ → ℕ) → Each (λ i. w i ≤ v i) l → (cs : List Call) → OnTime v e (log answer next (freshTasks p e l) cs)
+  fits-on-time v h cs = fresh-later p e w l form bounds room v h cs

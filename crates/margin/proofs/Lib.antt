@@ -1,0 +1,12 @@
+pub mod Rounds
+pub mod Difference
+pub mod Requests
+pub mod Search
+pub mod Gather
+pub mod Results
+pub mod Demands
+pub mod Enough
+pub mod Releases
+pub mod Worst
+pub mod Needed
+pub mod Exact

@@ -1,0 +1,4 @@
+pub mod Margin
+pub mod Answers
+pub mod Exact
+pub mod Steps
