@@ -42,7 +42,7 @@ typedef enum homvaits_refusal {
     HOMVAITS_OVERLOAD = 14, /* a core has more work than time; core */
     HOMVAITS_NO_FIT = 15,   /* the planner finds no core for a task; task */
     HOMVAITS_TIGHT = 16,    /* the output is too short; 0 */
-    HOMVAITS_UNLISTED = 17, /* the core has no such task; 0 */
+    HOMVAITS_UNLISTED = 17, /* the core or the job list has no such task; 0 */
     HOMVAITS_EARLY = 18,    /* fewer ticks than its period since the task's last release; task */
     HOMVAITS_LATE = 19,     /* the task's last job is still pending; task */
     HOMVAITS_QUIET = 20,    /* the task has no pending job; task */
@@ -101,6 +101,12 @@ typedef struct homvaits_listed {
     uint16_t length; /* of the text, which stands at the front of the output; no zero byte follows it */
 } homvaits_listed;
 
+typedef struct homvaits_margined {
+    uint8_t refusal;
+    uint16_t place;
+    int32_t margin; /* ticks to spare, or below zero where a job may be late */
+} homvaits_margined;
+
 /* Checks a sheet. Accepted: it is a sheet and every core fits; the answer has its counts.
  *
  * Refusals, in this order; each rule is looked at in all of the sheet before the next one:
@@ -138,6 +144,7 @@ homvaits_planned homvaits_plan(const uint8_t *jobs, size_t len, uint64_t limit, 
 homvaits_step homvaits_start(const uint8_t *sheet, size_t len, uint64_t core);
 
 /* Starts a core from a job list (as in homvaits_plan) without a sheet, for the bench: nothing promises that its jobs end on time.
+ * homvaits_margin tells whether they do.
  *
  * Refusals, in this order:
  *   5 LENGTH    place 0: `len` is no multiple of 4
@@ -179,6 +186,22 @@ homvaits_ticked homvaits_tick(homvaits_core core);
  * Refusal:
  *   16 TIGHT    place 0: `out_len` is below HOMVAITS_TEXT_MAX */
 homvaits_listed homvaits_list(const uint8_t *sheet, size_t len, uint8_t *out, size_t out_len);
+
+/* The margin of task number `task` of a job list (as in homvaits_plan) on one core: how many ticks its jobs have to spare. The demand at t
+ * is the task's budget plus, for each task above it (a shorter period, or the same one and a lower number), that one's budget times
+ * t / period rounded up. The margin is the period minus the smallest t from 1 to the period whose demand is at most t; where there is no
+ * such t, it is the period minus the demand at the period, which is below zero.
+ *
+ * The margin is zero or more for every task of the list exactly when no run from homvaits_start_list leaves a job pending once its period
+ * has passed since its release, whatever is released, finished and ticked.
+ *
+ * Refusals, in this order:
+ *   5 LENGTH       place 0: `len` is no multiple of 4
+ *   4 COUNT        place 0: over 64 jobs
+ *   7 PERIOD       the task: its period is not 1 to 60,000
+ *   8 BUDGET       the task: its budget is 0 or above its period
+ *   17 UNLISTED    place 0: `task` is not below the number of jobs */
+homvaits_margined homvaits_margin(const uint8_t *jobs, size_t len, uint64_t task);
 
 #ifdef __cplusplus
 }

@@ -18,7 +18,7 @@ fi
 build wrong wrong
 mistake=0
 # the call in which each mistake of fake is to be noticed
-for call in check check plan plan plan plan plan plan start start start_list release release finish tick tick tick list list list; do
+for call in check check plan plan plan plan plan plan start start start_list release release finish tick tick tick list list list margin margin margin margin; do
     mistake=$((mistake + 1))
     answer=$(FAKE_WRONG=$mistake "$target/wrong/release/compare" 1 1) || true
     case $answer in

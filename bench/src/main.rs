@@ -16,6 +16,7 @@ fn main() {
     check(&mut rng);
     plan(&mut rng);
     tick();
+    margin(&mut rng);
 }
 
 fn check(rng: &mut Rng) {
@@ -86,6 +87,36 @@ fn tick() {
     );
     println!("tick on a core of 64 tasks, only the last pending:");
     compare(TICKS, || run(plain::tick), || run(binding::tick));
+}
+
+fn margin(rng: &mut Rng) {
+    let lists = workload::busy_lists(rng, 200);
+    let mut fitting = 0;
+    for list in &lists {
+        let mut fits = true;
+        for number in 0..64 {
+            let answer = plain::margin(list, number);
+            assert_eq!(
+                answer,
+                binding::margin(list, number),
+                "they differ on a margin"
+            );
+            fits &= answer.margin >= 0;
+        }
+        fitting += fits as usize;
+    }
+    println!(
+        "all margins of a list of 64 tasks, {} lists, {fitting} without one below zero:",
+        lists.len()
+    );
+    let run = |call: fn(&[u8], u64) -> reference::MarginAnswer| {
+        for list in &lists {
+            for number in 0..64 {
+                black_box(call(black_box(list), number));
+            }
+        }
+    };
+    compare(lists.len(), || run(plain::margin), || run(binding::margin));
 }
 
 /// Print the best time of each side for one call, and their ratio.

@@ -1,4 +1,4 @@
-//! What is timed: sheets of all sizes, full plans, one core.
+//! What is timed: sheets of all sizes, full plans, one core, busy bench lists.
 
 use inputs::*;
 use reference::Core;
@@ -52,4 +52,32 @@ pub fn last_pending() -> Core {
     let release = reference::release(start.core, 63);
     assert_eq!((start.refusal, release.refusal), (0, 0));
     release.core
+}
+
+/// So many lists of 64 jobs that ask for 70% to 95% of one core. The periods
+/// are 100 to 60,000, as many in each doubling of 100; the load is dealt out
+/// to the jobs by random weights of 1 to 100, and each budget rounded to the
+/// nearest, but at least 1.
+pub fn busy_lists(rng: &mut Rng, count: usize) -> Vec<Vec<u8>> {
+    const MILLION: u64 = 1_000_000;
+    let mut lists = Vec::new();
+    while lists.len() < count {
+        let load = rng.range(700, 950) * 1000;
+        let weights = [(); 64].map(|()| rng.range(1, 100));
+        let total: u64 = weights.iter().sum();
+        let (mut list, mut asked) = (Vec::new(), 0);
+        for weight in weights {
+            let shortest = 100 << rng.below(10);
+            let period = rng.range(shortest, (2 * shortest - 1).min(60_000));
+            let share = period * load * weight / total;
+            let budget = ((share + MILLION / 2) / MILLION).max(1);
+            asked += budget * MILLION / period;
+            list.extend((period as u16).to_le_bytes());
+            list.extend((budget as u16).to_le_bytes());
+        }
+        if (700_000..=950_000).contains(&asked) {
+            lists.push(list);
+        }
+    }
+    lists
 }

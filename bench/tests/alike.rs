@@ -51,3 +51,26 @@ fn tick() {
         assert_eq!(binding::tick(core), expected);
     }
 }
+
+#[test]
+fn margin() {
+    let mut rng = Rng::new(4);
+    let mut lists = workload::busy_lists(&mut rng, 3);
+    for count in (0..=66).chain(0..=66) {
+        let list = job_list(&mut rng, count);
+        for kind in 0..JOB_DAMAGES {
+            lists.push(damaged_jobs(&mut rng, &list, kind));
+        }
+        lists.push(list);
+        let (list, _) = tight_list(&mut rng, count.clamp(1, 64), 300);
+        lists.push(list);
+    }
+    for list in lists {
+        for _ in 0..3 {
+            let number = any_number(&mut rng, list.len() as u64 / 4);
+            let expected = reference::margin(&list, number);
+            assert_eq!(plain::margin(&list, number), expected);
+            assert_eq!(binding::margin(&list, number), expected);
+        }
+    }
+}

@@ -14,7 +14,7 @@ enum { SIZE = 1 << 16, PAINT = 0xa5, BOUND = 8192, JOBS = 64 };
 void nothing(void);
 __asm__(".globl nothing\nnothing: mov %rdi, %rax\n ret\n.section .note.GNU-stack,\"\"\n.text");
 
-#define CALLS(X) X(check, 0) X(plan, 0) X(start, 0) X(start_list, 0) X(release, 1) X(finish, 1) X(tick, 1) X(list, 0)
+#define CALLS(X) X(check, 0) X(plan, 0) X(start, 0) X(start_list, 0) X(release, 1) X(finish, 1) X(tick, 1) X(list, 0) X(margin, 0)
 
 /* Called through these, so that a caller's frame is the same whatever stands there. */
 #define POINTER(name, by_value) static __typeof__(homvaits_##name) *volatile name = homvaits_##name;
@@ -28,6 +28,7 @@ static homvaits_planned planned;
 static homvaits_step step;
 static homvaits_ticked ticked;
 static homvaits_listed listed;
+static homvaits_margined margined;
 static homvaits_core fresh, busy;
 
 static void run_check(void) { checked = check(sheet, sizeof sheet); }
@@ -38,6 +39,7 @@ static void run_release(void) { step = release(fresh, JOBS - 1); }
 static void run_finish(void) { step = finish(busy, JOBS - 1); }
 static void run_tick(void) { ticked = tick(busy); }
 static void run_list(void) { listed = list(sheet, sizeof sheet, text, sizeof text); }
+static void run_margin(void) { margined = margin(jobs, sizeof jobs, JOBS - 1); }
 
 static size_t depth(void (*run)(void)) {
     memset(stack, PAINT, SIZE);

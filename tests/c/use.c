@@ -51,6 +51,11 @@ FIELD(listed, refusal, 0, 1);
 FIELD(listed, place, 2, 2);
 FIELD(listed, length, 4, 2);
 
+SIZE(margined, 8);
+FIELD(margined, refusal, 0, 1);
+FIELD(margined, place, 2, 2);
+FIELD(margined, margin, 4, 4);
+
 #ifdef __cplusplus
 #define LANGUAGE "C++"
 #else
@@ -172,10 +177,42 @@ static void list_refusals(void) {
     assert(listed.refusal == 0 && listed.length == sizeof line - 1 && memcmp(text, line, listed.length) == 0);
 }
 
+static int margined_as(homvaits_margined margined, unsigned refusal, unsigned place, int margin) {
+    return margined.refusal == refusal && margined.place == place && margined.margin == margin;
+}
+
+static void margins(void) {
+    uint8_t list[260] = {0};
+    const unsigned jobs[3][2] = {{5, 2}, {7, 4}, {35, 1}};
+    size_t len = jobs_of(list, jobs, 3);
+    assert(margined_as(homvaits_margin(list, len, 0), 0, 0, 3));
+    assert(margined_as(homvaits_margin(list, len, 1), 0, 0, -1));
+    assert(margined_as(homvaits_margin(list, len, 2), 0, 0, 0));
+    assert(margined_as(homvaits_margin(list, len, 3), HOMVAITS_UNLISTED, 0, 0));
+    assert(margined_as(homvaits_margin(list, len, UINT64_MAX), HOMVAITS_UNLISTED, 0, 0));
+    assert(margined_as(homvaits_margin(list, 0, 0), HOMVAITS_UNLISTED, 0, 0));
+    assert(margined_as(homvaits_margin(list, 7, 9), HOMVAITS_LENGTH, 0, 0));
+    assert(margined_as(homvaits_margin(list, sizeof list, 99), HOMVAITS_COUNT, 0, 0));
+    put(list + 6, 8);
+    assert(margined_as(homvaits_margin(list, len, 3), HOMVAITS_BUDGET, 1, 0));
+    put(list + 8, 60001);
+    assert(margined_as(homvaits_margin(list, len, 3), HOMVAITS_PERIOD, 2, 0));
+
+    /* 64 jobs that each want all of the time, with the last task far below zero: the least margin of all lists */
+    for (unsigned i = 0; i < 64; i++) {
+        const unsigned period = i < 63 ? 59999 : 60000;
+        put(list + 4 * i, period);
+        put(list + 4 * i + 2, period);
+    }
+    assert(margined_as(homvaits_margin(list, 256, 0), 0, 0, 0));
+    assert(margined_as(homvaits_margin(list, 256, 63), 0, 0, -7559874));
+}
+
 int main(void) {
     check_refusals();
     plan_refusals();
     list_refusals();
+    margins();
 
     const unsigned jobs[2][2] = {{5, 1}, {9, 7}};
     uint8_t list[8], sheet[HOMVAITS_SHEET_MAX], text[HOMVAITS_TEXT_MAX];

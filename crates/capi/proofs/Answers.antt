@@ -1,12 +1,17 @@
 -- The C answers, as the code makes them.
 -- Assumes nothing.
-use Prim.Native.Nat.{ℕ, _≤_}
+use Prim.Native.Nat.{ℕ, _≤_, _<_}
 use mathlib.Core.Path.{_≡_, refl, sym, ap, _∙_, subst}
 use mathlib.Core.Bool.{Bool, true, false, cond, false≢true}
 use lib.Dec.{ltb}
 use native.Mathlib.Omega.{arith}
 use mathlib.Core.List.{List}
 use lib.ListN.{take}
+use lib.IntN.{ℤ, pos}
+use lib.Signed.{mag}
+use mir.Syntax.{w32}
+use mir.Val.{toZ, ofZ}
+use mir.ValLaws.{toZ-ofZ}
 use lib.Dec.{lit≤}
 use Rattle.sheet.specs.declared.Refusal.{Refusal}
 use Rattle.sheet.specs.declared.Refusal.the-variants as words
@@ -20,6 +25,9 @@ use Rattle.planner.specs.Plan as plan
 use Rattle.listing.specs.declared.Listed.{Listed}
 use Rattle.listing.specs.declared.Listed.the-variants as lists
 use Rattle.listing.specs.Answers as list
+use Rattle.margin.specs.declared.Slack.{Slack}
+use Rattle.margin.specs.declared.Slack.the-variants as slacks
+use Rattle.margin.specs.Answers as margin
 use Rattle.timing.specs.Calls.{Call, Answer, accepted, served, idle, refused}
 use Rattle.dispatcher.specs.declared.Core.{Core}
 use Rattle.dispatcher.specs.declared.Step.{Step}
@@ -29,7 +37,7 @@ use Rattle.dispatcher.specs.Operations.{answerOf}
 use Rattle.dispatcher.specs.Starts.{sheetAnswer}
 use Rattle.dispatcher.specs.OnTime.{Kept, Timely}
 use Rattle.capi.specs.declared.StepAnswer.{StepAnswer}
-use Rattle.capi.specs.Answers.{checkedOf, plannedOf, listedOf, steppedOf, tickedOf}
+use Rattle.capi.specs.Answers.{checkedOf, plannedOf, listedOf, steppedOf, tickedOf, marginedOf}
 
 -- no refusal has the number 0
 pub positive : (w : Refusal) → 1 ≤ numberOf w
@@ -88,6 +96,15 @@ listed-written v o n e h = ap listedOf (sym (ap list.answerOf h) ∙ e)
 pub listed-tight : (v : Listed) (o : list.Answer) → list.answerOf v ≡ o → v ≡ lists.Tight → record { refusal = 16; place = 0; length = 0 } ≡ listedOf o
 unfolding listedOf
 listed-tight v o e h = ap listedOf (sym (ap list.answerOf h) ∙ e)
+
+-- that of `margin`, of which the margin has been laid in the answer as bits
+pub margined-ticks : (v : Slack) (o : margin.Outcome) (m : ℤ) → margin.outcomeOf v ≡ o → v ≡ slacks.Ticks m → mag m < 2147483648 → record { refusal = 0; place = 0; margin = toZ w32 (ofZ w32 m) } ≡ marginedOf o
+unfolding marginedOf
+margined-ticks v o m e h b = rw (toZ-ofZ w32 m (record { sfits = b })) (ap marginedOf (sym (ap margin.outcomeOf h) ∙ e))
+
+pub margined-refused : (v : Slack) (o : margin.Outcome) (w : Refusal) (k p : ℕ) → margin.outcomeOf v ≡ o → v ≡ slacks.Refused w p → k ≡ numberOf w → record { refusal = k; place = p; margin = pos 0 } ≡ marginedOf o
+unfolding marginedOf
+margined-refused v o w k p e h r = rw r (ap marginedOf (sym (ap margin.outcomeOf h) ∙ e))
 
 -- the dispatcher's, each answer of the code
 module _ (a : CodeAnswer) (s : Core) where

@@ -1,8 +1,10 @@
 -- The C answers: `refusal` is 0 where nothing is refused, else the refusal's number (docs/SHEET.md, section 9); fields that do not apply
 -- are 0.
+use lib.IntN.{pos}
 use Rattle.checker.specs.Verdict as check
 use Rattle.planner.specs.Plan as plan
 use Rattle.listing.specs.Answers as list
+use Rattle.margin.specs.Answers as margin
 use Rattle.timing.specs.Calls.{Answer, accepted, served, idle, refused}
 use Rattle.dispatcher.specs.declared.Core.{Core}
 use Rattle.capi.specs.declared.Checked.{Checked}
@@ -10,6 +12,7 @@ use Rattle.capi.specs.declared.PlanAnswer.{PlanAnswer}
 use Rattle.capi.specs.declared.ListAnswer.{ListAnswer}
 use Rattle.capi.specs.declared.StepAnswer.{StepAnswer}
 use Rattle.capi.specs.declared.Ticked.{Ticked}
+use Rattle.capi.specs.declared.Margined.{Margined}
 
 -- what the checker, the planner and the listing answer
 unfoldable pub checkedOf : check.Outcome → Checked
@@ -37,3 +40,8 @@ tickedOf accepted s = record { refusal = 0; place = 0; task = 0; core = s }
 tickedOf (served j) s = record { refusal = 0; place = 0; task = j; core = s }
 tickedOf idle s = record { refusal = 0; place = 0; task = 255; core = s }
 tickedOf (refused k p) s = record { refusal = k; place = p; task = 0; core = s }
+
+-- what `margin` answers
+unfoldable pub marginedOf : margin.Outcome → Margined
+marginedOf (margin.ticks m) = record { refusal = 0; place = 0; margin = m }
+marginedOf (margin.refused k p) = record { refusal = k; place = p; margin = pos 0 }

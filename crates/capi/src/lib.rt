@@ -12,13 +12,16 @@ ghost use Rattle.timing.specs.Calls.{Call, release, finish, tick};
 ghost use Rattle.dispatcher.specs.Operations.{answerOf, ask, step};
 ghost use Rattle.dispatcher.specs.Starts.{sheetAnswer, sheetState, listAnswer, listState};
 ghost use Rattle.dispatcher.specs.OnTime.{Kept};
-ghost use Rattle.capi.specs.Answers.{checkedOf, plannedOf, listedOf, steppedOf, tickedOf};
+ghost use Rattle.margin.specs.Answers.{marginAnswer};
+ghost use Rattle.margin.specs.Exact.{Exact};
+ghost use Rattle.capi.specs.Answers.{checkedOf, plannedOf, listedOf, steppedOf, tickedOf, marginedOf};
 ghost use Rattle.capi.specs.Planned.{RunsOnTime};
 use checker::Verdict;
 use dispatcher::Answer;
 use dispatcher::Core;
 use dispatcher::Step;
 use listing::Listed;
+use margin::Slack;
 use planner::Planned;
 
 #[repr(C)]
@@ -58,6 +61,13 @@ pub struct Ticked {
     pub place: u16,
     pub task: u8,
     pub core: Core,
+}
+
+#[repr(C)]
+pub struct Margined {
+    pub refusal: u8,
+    pub place: u16,
+    pub margin: i32,
 }
 
 #[no_mangle]
@@ -220,6 +230,27 @@ pub extern "C" fn homvaits_tick(core: Core) -> Ticked
             place: 0,
             task: 0,
             core: next,
+        },
+    }
+}
+
+// The margins of a list are zero or more exactly when no run from its bench start leaves a job pending once its period has passed.
+#[no_mangle]
+pub extern "C" fn homvaits_margin(jobs: &[u8], number: u64) -> Margined
+    ensures { λ r. ⌜ r ≡ marginedOf (marginAnswer (now (jobs .entry)) number) ⌝ }
+    ensures exact { λ _. ⌜ Exact (now (jobs .entry)) ⌝ }
+{
+    let answer = margin::margin(jobs, number);
+    match answer {
+        Slack::Ticks(margin) => Margined {
+            refusal: 0,
+            place: 0,
+            margin,
+        },
+        Slack::Refused { word, place } => Margined {
+            refusal: sheet::number(word),
+            place,
+            margin: 0,
         },
     }
 }

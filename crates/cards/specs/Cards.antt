@@ -1,10 +1,11 @@
--- The bench cards A to U, small inputs each with what it must give, and the listings of B, C and P, as one table about the definitions
--- (docs/SHEET.md, sections 4 to 8). N to Q and S to U are in no paper; all but T were worked out by hand.
+-- The bench cards A to W, small inputs each with what it must give, and the listings of B, C and P, as one table about the definitions
+-- (docs/SHEET.md, sections 4 to 8 and 11). N to Q, S to U and W are in no paper; all but T were worked out by hand.
 use Prim.Native.Nat.{ℕ, _/_, _%_}
 use Prim.Native.String.{String}
 use mathlib.Core.Path.{_≡_}
 use mathlib.Core.Bool.{true}
 use mathlib.Core.List.{List, [], _∷_, _++_, map}
+use lib.IntN.{pos, negsuc}
 use Rattle.sheet.specs.Table.{scan}
 use Rattle.sheet.specs.Records.{Figures, figures}
 use Rattle.fit.specs.declared.By.the-variants.{Ring}
@@ -22,6 +23,8 @@ use Rattle.dispatcher.specs.Operations.{ask, step}
 use Rattle.dispatcher.specs.Starts.{sheetAnswer, sheetState, listAnswer, listState}
 use Rattle.planner.specs.Plan.{fitOf, sheetFor, planOutcome}
 use Rattle.planner.specs.Plan as planner
+use Rattle.margin.specs.Answers.{marginAnswer, ticks}
+use Rattle.margin.specs.Answers as margin
 use Rattle.listing.specs.Words.{codes, lineFeed}
 use Rattle.listing.specs.Listing.{listingOf}
 
@@ -95,6 +98,12 @@ jobsS = job 2 1 ++ (job 6 2 ++ job 12 1)
 
 abbrev pub jobsT : List ℕ
 jobsT = job 16 2 ++ (job 5 3 ++ (job 27 7 ++ (job 23 9 ++ (job 12 8 ++ (job 9 3 ++ job 25 3)))))
+
+abbrev pub jobsV : List ℕ
+jobsV = job 5 2 ++ (job 7 4 ++ job 35 1)
+
+abbrev pub jobsW : List ℕ
+jobsW = job 4 1 ++ (job 4 2 ++ job 3 1)
 
 -- the periods of card U
 abbrev pub farApart : List ℕ
@@ -210,8 +219,12 @@ linesP =
     ∷ "core 0 pivot 2000 divisor 1 load 1000"
     ∷ []
 
+-- what is answered for each task of a list of three, and for a number that it does not have
+abbrev pub margins : List ℕ → List margin.Outcome
+margins l = map (marginAnswer l) (numbers 0 4)
+
 -- The cards. A to F and O to Q are verdicts, G to I, N and R to T plans, J and K runs on the sheet of I, L a run on the bench, M a ring
--- order, U trials; then the listings.
+-- order, U trials, V and W margins; then the listings.
 pub record Cards : Type 0 where
   pub A : verdict (header 0 0) ≡ checker.accepted 0 0
   pub B : verdict (listed 6 4) ≡ checker.accepted 3 1
@@ -254,6 +267,9 @@ pub record Cards : Type 0 where
   pub U :
       (sr 3 farApart 1 ≡ record { Q = 60000; D = 177147; factors = 1 ∷ 177147 ∷ [] })
       × (trials farApart ≡ sr 2 farApart 0 ∷ sr 2 farApart 1 ∷ sr 3 farApart 0 ∷ dct farApart 0 ∷ dct farApart 1 ∷ [])
+  pub «V» : margins jobsV ≡ ticks (pos 3) ∷ ticks (negsuc 0) ∷ ticks (pos 0) ∷ margin.refused 17 0 ∷ []
+  -- of two tasks with one period the one with the lower number is above; the last task by number is the first by priority
+  pub W : margins jobsW ≡ ticks (pos 2) ∷ ticks (negsuc 0) ∷ ticks (pos 2) ∷ margin.refused 17 0 ∷ []
   pub listingB : listingOf (listed 6 4) ≡ text linesB
   pub listingC : listingOf (listed 7 4) ≡ text linesC
   pub listingP : listingOf nearlyFull ≡ text linesP

@@ -129,3 +129,34 @@ pub fn list<'a>(bytes: &[u8], out: &'a mut [u8; LISTING_MAX]) -> &'a str {
     let text = out.get(..usize::from(answer.length)).unwrap_or_default();
     core::str::from_utf8(text).unwrap_or_default()
 }
+
+/// The margin of a task of a job list on one core: how many ticks its jobs have to spare, below zero where one may be late. A job's place
+/// in the list is its task number.
+///
+/// The margin is zero or more for every task of the list exactly when no run from [`Core::start_list`] leaves a job pending once its
+/// period has passed since its release, whatever is released, finished and ticked.
+///
+/// ```
+/// use homvaits::{margin, Job};
+///
+/// # fn main() -> Result<(), homvaits::Refusal> {
+/// let jobs = [(5, 2), (7, 4), (35, 1)].map(|(period, budget)| Job { period, budget });
+/// assert_eq!(margin(&jobs, 0)?, 3);
+/// assert_eq!(margin(&jobs, 1)?, -1); // in 7 ticks task 0 may take 4, and task 1 needs 4
+/// assert_eq!(margin(&jobs, 2)?, 0);
+/// # Ok(())
+/// # }
+/// ```
+///
+/// # Errors
+///
+/// In this order: [`Word::Count`] over 64 jobs; [`Word::Period`] and [`Word::Budget`], with the task, where a job is out of range;
+/// [`Word::Unlisted`] if the list has no such task.
+pub fn margin(jobs: &[Job], task: u8) -> Result<i32, Refusal> {
+    let list = Job::list(jobs);
+    let bytes = list.as_bytes();
+    // SAFETY: pointer and length are of one slice, which is only read.
+    let answer = unsafe { sys::homvaits_margin(bytes.as_ptr(), bytes.len(), u64::from(task)) };
+    Refusal::unless_zero(answer.refusal, answer.place)?;
+    Ok(answer.margin)
+}

@@ -137,7 +137,7 @@ words! {
     14 Overload "Overload" Core "the core has more work than time"
     15 NoFit "No fit" Task "the planner finds no core for the task"
     16 Tight "Tight" Whole "the output is too short"
-    17 Unlisted "Unlisted" Whole "the core has no such task"
+    17 Unlisted "Unlisted" Whole "the core or the job list has no such task"
     18 Early "Early" Task "fewer ticks than its period since the task's last release"
     19 Late "Late" Task "the task's last job is still pending"
     20 Quiet "Quiet" Task "the task has no pending job"

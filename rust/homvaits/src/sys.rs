@@ -48,6 +48,13 @@ pub struct Listed {
     pub length: u16,
 }
 
+#[repr(C)]
+pub struct Margined {
+    pub refusal: u8,
+    pub place: u16,
+    pub margin: i32,
+}
+
 /// The task of a tick that no task has.
 pub const IDLE: u8 = 255;
 
@@ -67,10 +74,11 @@ extern "C" {
     pub fn homvaits_finish(core: Core, task: u64) -> Step;
     pub fn homvaits_tick(core: Core) -> Ticked;
     pub fn homvaits_list(sheet: *const u8, len: usize, out: *mut u8, out_len: usize) -> Listed;
+    pub fn homvaits_margin(jobs: *const u8, len: usize, task: u64) -> Margined;
 }
 
 mod layout {
-    use super::{Checked, Core, Listed, Planned, Step, Ticked};
+    use super::{Checked, Core, Listed, Margined, Planned, Step, Ticked};
     use crate::Task;
     include!("layout.rs");
 }

@@ -1,6 +1,6 @@
 //! Each kind of refusal: word, place and text.
 
-use homvaits::{check, plan, Core, Job, Place, Refusal, Sheet, Word};
+use homvaits::{check, margin, plan, Core, Job, Place, Refusal, Sheet, Word};
 
 /// Three tasks that fill one core: 3 1, 7 1 and 13 6, with factors 1, 2 and 4.
 const FULL: [u8; 46] = [
@@ -224,7 +224,7 @@ fn cores() {
         core.release(3),
         Word::Unlisted,
         Place::Whole,
-        "refused 17 (Unlisted): the core has no such task",
+        "refused 17 (Unlisted): the core or the job list has no such task",
     );
     refused(
         core.finish(2),
@@ -248,6 +248,33 @@ fn cores() {
         Place::Task(2),
         "refused 19 (Late) at task 2: the task's last job is still pending",
     );
+}
+
+#[test]
+fn margins() {
+    refused(
+        margin(&[job(0, 0); 65], 99),
+        Word::Count,
+        Place::Whole,
+        "refused 4 (Count): there are over 64 tasks, over 8 cores or a core limit above 8",
+    );
+    refused(
+        margin(&[job(5, 6), job(60_001, 1)], 2),
+        Word::Period,
+        Place::Task(1),
+        "refused 7 (Period) at task 1: the period is not 1 to 60,000",
+    );
+    refused(
+        margin(&[job(5, 5), job(9, 0)], 2),
+        Word::Budget,
+        Place::Task(1),
+        "refused 8 (Budget) at task 1: the budget is 0 or above the period",
+    );
+    let unlisted = "refused 17 (Unlisted): the core or the job list has no such task";
+    let jobs = [job(5, 5), job(9, 1)];
+    refused(margin(&jobs, 2), Word::Unlisted, Place::Whole, unlisted);
+    refused(margin(&jobs, 255), Word::Unlisted, Place::Whole, unlisted);
+    refused(margin(&[], 0), Word::Unlisted, Place::Whole, unlisted);
 }
 
 #[test]

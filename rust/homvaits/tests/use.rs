@@ -1,6 +1,7 @@
 //! The wrapper as a set uses it.
 
-use homvaits::{check, list, plan, Core, Job, Place, Refusal, Sheet, Word, LISTING_MAX};
+use homvaits::{check, list, margin, plan};
+use homvaits::{Core, Job, Place, Refusal, Sheet, Word, LISTING_MAX};
 
 const JOBS: [Job; 2] = [job(5, 1), job(9, 7)];
 
@@ -93,6 +94,26 @@ fn a_refused_call_leaves_the_core() {
         core.tick().unwrap();
     }
     left(&mut core, |c| c.release(1), Word::Late, Place::Task(1));
+}
+
+#[test]
+fn margins_tell_which_job_may_be_late() {
+    let jobs = [job(5, 2), job(7, 4), job(35, 1)];
+    let margins = [0, 1, 2].map(|task| margin(&jobs, task).unwrap());
+    assert_eq!(margins, [3, -1, 0]);
+
+    // the fewest and the most ticks to spare
+    let mut long = [job(59_999, 59_999); 64];
+    long[63] = job(60_000, 60_000);
+    assert_eq!(margin(&long, 63), Ok(-7_559_874));
+    assert_eq!(margin(&[job(60_000, 1)], 0), Ok(59_999));
+
+    // what a planned sheet keeps within its period has ticks to spare
+    let sheet = plan(&JOBS, 1, 0).unwrap();
+    for task in sheet.tasks() {
+        let spare = i32::from(task.period) - i32::from(task.within);
+        assert!(margin(&JOBS, task.number).unwrap() >= spare);
+    }
 }
 
 #[test]

@@ -3,12 +3,13 @@
 //! layout.
 
 mod layout {
+    use reference::MarginAnswer as Margined;
     use reference::{CheckAnswer as Checked, ListAnswer as Listed, PlanAnswer as Planned};
     use reference::{Core, CoreAnswer as Step, Task, TickAnswer as Ticked};
     include!("../../../rust/homvaits/src/layout.rs");
 }
 
-use reference::{CheckAnswer, Core, CoreAnswer, ListAnswer, PlanAnswer, TickAnswer};
+use reference::{CheckAnswer, Core, CoreAnswer, ListAnswer, MarginAnswer, PlanAnswer, TickAnswer};
 
 extern "C" {
     fn homvaits_check(sheet: *const u8, len: usize) -> CheckAnswer;
@@ -26,6 +27,7 @@ extern "C" {
     fn homvaits_finish(core: Core, number: u64) -> CoreAnswer;
     fn homvaits_tick(core: Core) -> TickAnswer;
     fn homvaits_list(sheet: *const u8, len: usize, out: *mut u8, out_len: usize) -> ListAnswer;
+    fn homvaits_margin(jobs: *const u8, len: usize, number: u64) -> MarginAnswer;
 }
 
 // Every call is total; it reads and writes only the slices it is lent, whose
@@ -63,4 +65,8 @@ pub fn tick(core: Core) -> TickAnswer {
 pub fn list_into(sheet: &[u8], out: &mut [u8]) -> ListAnswer {
     let (out, out_len) = (out.as_mut_ptr(), out.len());
     unsafe { homvaits_list(sheet.as_ptr(), sheet.len(), out, out_len) }
+}
+
+pub fn margin(jobs: &[u8], number: u64) -> MarginAnswer {
+    unsafe { homvaits_margin(jobs.as_ptr(), jobs.len(), number) }
 }

@@ -5,6 +5,7 @@ mod checking;
 mod dispatching;
 mod lent;
 mod listing;
+mod margins;
 mod on_time;
 mod planning;
 mod session;
@@ -27,11 +28,13 @@ fn main() {
         checking::round(&mut session, &mut rng);
         planning::round(&mut session, &mut rng);
         dispatching::round(&mut session, &mut rng);
+        margins::round(&mut session, &mut rng);
     }
 
     checking::must_have_seen(&session);
     planning::must_have_seen(&session);
     dispatching::must_have_seen(&session);
     listing::must_have_seen(&session);
+    margins::must_have_seen(&session);
     println!("compare: {} cases, 0 differences", session.cases);
 }

@@ -179,6 +179,31 @@ pub unsafe extern "C" fn homvaits_list(
     answer
 }
 
+/// # Safety
+/// See `homvaits_check`.
+#[no_mangle]
+pub unsafe extern "C" fn homvaits_margin(jobs: *const u8, len: usize, number: u64) -> MarginAnswer {
+    let jobs = from_raw_parts(jobs, len);
+    // 21: t / p rounded down. 22: of equal periods none above another. 23: a
+    // missing tick as one to spare. 24: a number cut to a byte.
+    let number = if wrong(24) {
+        number as u8 as u64
+    } else {
+        number
+    };
+    let mut answer = margin(jobs, number);
+    if wrong(21) && answer.refusal == 0 {
+        answer.margin = rounded_down(jobs, number as usize);
+    }
+    if wrong(22) && answer.refusal == 0 {
+        answer.margin = without_ties(jobs, number as usize);
+    }
+    if wrong(23) {
+        answer.margin = answer.margin.abs();
+    }
+    answer
+}
+
 fn put(text: &[u8], out: &mut [u8]) -> ListAnswer {
     out[..text.len()].copy_from_slice(text);
     ListAnswer {
@@ -203,4 +228,29 @@ fn loads_rounded_down(bytes: &[u8]) -> Vec<u8> {
         text = text.replace(&line(load.ceil()), &line(load.floor()));
     }
     text.into_bytes()
+}
+
+/// The margin with t / p rounded down.
+fn rounded_down(list: &[u8], number: usize) -> i32 {
+    let core = start_list(list).core;
+    let named = |task: &&Task| task.number as usize == number;
+    let task = core.used().iter().find(named).expect("the task is listed");
+    let above = core.used().iter().take_while(|other| !named(other));
+    let demand = |t: i32| {
+        let asks = |other: &Task| other.budget as i32 * (t / other.period as i32);
+        task.budget as i32 + above.clone().map(asks).sum::<i32>()
+    };
+    let period = task.period as i32;
+    let met = (1..=period).find(|&t| demand(t) <= t);
+    period - met.unwrap_or(demand(period))
+}
+
+/// The margin where the other tasks of the same period are left out.
+fn without_ties(list: &[u8], number: usize) -> i32 {
+    let entries: Vec<&[u8]> = list.chunks(4).collect();
+    let tied = |&i: &usize| i != number && entries[i][..2] == entries[number][..2];
+    let kept: Vec<usize> = (0..entries.len()).filter(|i| !tied(i)).collect();
+    let others: Vec<u8> = kept.iter().flat_map(|&i| entries[i]).copied().collect();
+    let place = kept.iter().position(|&i| i == number);
+    margin(&others, place.expect("the task is kept") as u64).margin
 }

@@ -25,6 +25,41 @@ pub fn job_list(rng: &mut Rng, count: usize) -> Vec<u8> {
     list
 }
 
+/// A list of `count` jobs with periods up to `longest`, and the number of the
+/// last one by priority, whose budget is near what the others leave of its
+/// period. Neither `count` nor `longest` is 0.
+pub fn tight_list(rng: &mut Rng, count: usize, longest: u64) -> (Vec<u8>, u64) {
+    let few = [(); 3].map(|()| rng.range(1, longest));
+    let style = rng.below(3);
+    let crowd = rng.range(count as u64, 4 * count as u64);
+    let mut jobs: Vec<(u64, u64)> = Vec::new();
+    for _ in 0..count {
+        let period = match style {
+            0 => rng.range(1, longest),
+            // many equal ones
+            1 => rng.pick(&few),
+            // powers of two
+            _ => {
+                let bits = longest.ilog2() as u64;
+                1 << (bits - rng.below(bits + 1).min(6))
+            }
+        };
+        let budget = rng.range(1, (2 * period / crowd).clamp(1, period));
+        jobs.push((period, budget));
+    }
+    let last = (0..count).max_by_key(|&i| jobs[i].0).unwrap_or(0);
+    let period = jobs[last].0;
+    let others = (0..count).filter(|&i| i != last).map(|i| jobs[i]);
+    let taken: u64 = others.map(|(p, e)| e * period.div_ceil(p)).sum();
+    let rest = period.saturating_sub(taken);
+    jobs[last].1 = rng
+        .pick(&[rest, rest, rest + 1, rest.max(1) - 1])
+        .clamp(1, period);
+    let entry = |&(p, e): &(u64, u64)| [(p as u16).to_le_bytes(), (e as u16).to_le_bytes()];
+    let list = jobs.iter().flat_map(entry).flatten().collect();
+    (list, last as u64)
+}
+
 fn period(rng: &mut Rng, style: u64, base: u64) -> u64 {
     match style {
         0 => rng.range(1, 12),

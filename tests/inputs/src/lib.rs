@@ -8,7 +8,7 @@ mod sheets;
 
 pub use calls::{any_number, random_call, Call};
 pub use cores::{any_core, CORE_DAMAGES};
-pub use jobs::{damaged_jobs, job_list, JOB_DAMAGES};
+pub use jobs::{damaged_jobs, job_list, tight_list, JOB_DAMAGES};
 pub use rng::Rng;
 pub use sheets::{
     damaged_sheet, handmade_sheet, likely_sheet, planned_sheet, random_bytes, SHEET_DAMAGES,

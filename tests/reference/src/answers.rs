@@ -53,6 +53,14 @@ pub struct ListAnswer {
 }
 
 #[repr(C)]
+#[derive(Clone, Copy, Debug, Default, PartialEq, Eq)]
+pub struct MarginAnswer {
+    pub refusal: u8,
+    pub place: u16,
+    pub margin: i32,
+}
+
+#[repr(C)]
 #[derive(Clone, Copy, Default, PartialEq, Eq)]
 pub struct Task {
     pub period: u16,
@@ -115,6 +123,16 @@ impl From<Refusal> for ListAnswer {
             refusal: refusal.number,
             place: refusal.place,
             ..ListAnswer::default()
+        }
+    }
+}
+
+impl From<Refusal> for MarginAnswer {
+    fn from(refusal: Refusal) -> Self {
+        MarginAnswer {
+            refusal: refusal.number,
+            place: refusal.place,
+            ..MarginAnswer::default()
         }
     }
 }

@@ -10,15 +10,19 @@ mod dispatcher;
 mod fraction;
 mod jobs;
 mod listing;
+mod margin;
 mod planner;
 mod sheet;
 
-pub use answers::{CheckAnswer, Core, CoreAnswer, ListAnswer, PlanAnswer, Task, TickAnswer, IDLE};
+pub use answers::{
+    CheckAnswer, Core, CoreAnswer, ListAnswer, MarginAnswer, PlanAnswer, Task, TickAnswer, IDLE,
+};
 pub use checker::{accept, check};
 pub use dispatcher::{finish, release, start_list, start_sheet, tick};
 pub use fraction::Fraction;
 pub use jobs::Job;
 pub use listing::{list, list_into, LISTING_ROOM};
+pub use margin::margin;
 pub use planner::{
     construction_of, dct, plan, plan_by, ring_order, sr, trials, Construction, Round, Trial, ROUNDS,
 };

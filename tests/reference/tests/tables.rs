@@ -1,6 +1,9 @@
 //! Tables 2 to 4 of the paper on accelerated simply periodic sets.
 
+mod ten_tasks;
+
 use reference::*;
+use ten_tasks::{counts, group, job_list, never_late, EXACT};
 
 const SR_2: Construction = Construction::Sr { base: 2 };
 const DCT: Construction = Construction::Dct;
@@ -21,35 +24,9 @@ fn accelerated_periods() {
     assert_eq!(dct(&periods, 2), fractions([(17, 10), (17, 2), (17, 1)]));
 }
 
-/// Table 3: ten tasks.
-const TASKS: [(u16, u16); 10] = [
-    (7, 2),
-    (21, 3),
-    (29, 9),
-    (49, 15),
-    (64, 20),
-    (66, 16),
-    (160, 32),
-    (235, 72),
-    (260, 25),
-    (450, 120),
-];
-
-/// The tasks in this set of bits, which are in priority order.
-fn group(set: u16) -> Vec<(u16, u16)> {
-    (0..10)
-        .filter(|i| set >> i & 1 == 1)
-        .map(|i| TASKS[i])
-        .collect()
-}
-
 /// Whether the planner puts the group on one core.
 fn planned(set: u16) -> bool {
-    let jobs: Vec<u8> = group(set)
-        .iter()
-        .flat_map(|(p, e)| [p.to_le_bytes(), e.to_le_bytes()].concat())
-        .collect();
-    plan(&jobs, 1, 0, &mut [0; 712]).refusal == 0
+    plan(&job_list(set), 1, 0, &mut [0; 712]).refusal == 0
 }
 
 /// Whether some pivot of a construction brings the load to one or below: the
@@ -66,39 +43,9 @@ fn passes(construction: Construction, set: u16) -> bool {
     })
 }
 
-/// How many partitions into groups of these sizes there are, and how many of
-/// them pass group by group.
-fn count(mut sizes: [u32; 3], passes: &dyn Fn(u16) -> bool) -> (u32, u32) {
-    sizes.sort();
-    let passing: Vec<bool> = (0..1024).map(|set| set == 0 || passes(set)).collect();
-    let (mut all, mut passed) = (0, 0);
-    for a in 0..1024u16 {
-        for b in a + 1..1024 {
-            let c = 1023 ^ (a | b);
-            // each partition once: a < b < c
-            if a & b != 0 || c < b {
-                continue;
-            }
-            let groups = [a, b, c];
-            let mut found = groups.map(u16::count_ones);
-            found.sort();
-            if found == sizes {
-                all += 1;
-                passed += groups.iter().all(|&g| passing[g as usize]) as u32;
-            }
-        }
-    }
-    (all, passed)
-}
-
-/// Table 4: for each of three sizes of groups, how many partitions there are
-/// and how many of them pass.
-fn counts(passes: &dyn Fn(u16) -> bool) -> [(u32, u32); 3] {
-    [[4, 3, 3], [4, 4, 2], [5, 3, 2]].map(|sizes| count(sizes, passes))
-}
-
 #[test]
 fn partitions_of_ten_tasks() {
+    assert_eq!(counts(&|set| never_late(margin, set)), EXACT);
     let by_either = |set| passes(SR_2, set) || passes(DCT, set);
     assert_eq!(counts(&by_either), [(2100, 470), (1575, 12), (2520, 0)]);
     // base 3 adds none
