@@ -1,5 +1,5 @@
 #!/usr/bin/env bash
-# The programs list and plan, and run-example: what they print on standard output and standard error, and their exit status.
+# The programs list, plan and margins, and run-example: what they print on standard output and standard error, and their exit status.
 # Stored and written here is what the rules of sheets and plans give, and for the programs' own messages what docs/DECISIONS.md says.
 set -euo pipefail
 cd "$(dirname "$0")/.."
@@ -74,7 +74,7 @@ try 'run-example without rt' 1 '' 'run-example: the Rattle toolchain, rt, is not
 try 'run.sh without the library' 1 '' "run.sh: there is no library $room/none; rt staticlib capi makes target/staticlib/libcapi.a\n" \
     env HOMVAITS_LIB="$room/none" tests/run.sh
 
-# The examples; the first builds the programs.
+# The examples; the first builds list and plan.
 for jobs in examples/*.jobs; do
     name=$(basename "$jobs" .jobs)
     expected=$(cat "tests/programs/$name.out"; echo .)
@@ -180,4 +180,46 @@ try 'plan of a directory' 0 '' 'standard input: Is a directory\n' $plan < exampl
 try 'plan of a closed input' 0 '' 'standard input: Bad file descriptor\n' sh -c "$plan <&-"
 try 'plan of an input that breaks off' 0 '' 'standard input: Input/output error\n' broken $plan
 try 'plan to a full device' 0 '' 'standard output: No space left on device\n' sh -c "$plan > /dev/full" < examples/full-core.jobs
+
+# margins: a period minus the smallest t from 1 on, up to the period, at which the demand is at most t, or else minus the demand at the
+# period. Each task's demand at t is its own budget and, of each task above it, the budget times t / period rounded up.
+rt check margins > "$room/log" 2>&1 || { cat "$room/log"; exit 1; }
+margins=target/bin/margins
+# Task 1: 4 + 2 * 2 at 7. Task 2: 1 + 7 * 2 + 5 * 4 at 35.
+example='task 0 margin 3\ntask 1 margin -1\ntask 2 margin 0\n'
+try 'margins of three jobs' 0 "$example" '' $margins < <(printf '5 2\n7 4\n35 1\n')
+try 'margins with blank lines and comments' 0 "$example" '' $margins < <(printf '# period, budget\n\n5 2 # short\r\n \t\n#\n7\t4\n\n35 1')
+try 'margins in another order' 0 'task 0 margin 0\ntask 1 margin 3\ntask 2 margin -1\n' '' $margins < <(printf '35 1\n5 2\n7 4\n')
+try 'margins of nothing' 0 '' '' $margins < /dev/null
+try 'margins of a comment' 0 '' '' $margins < <(echo '# no job')
+try 'margins of one job' 0 'task 0 margin 59999\n' '' $margins < <(echo '60000 1')
+try 'margins of one job that is always there' 0 'task 0 margin 0\n' '' $margins < <(echo '1 1')
+try 'margins of one period twice' 0 'task 0 margin 5\ntask 1 margin 3\n' '' $margins < <(printf '8 3\n8 2\n')
+# Task 2 in turn: 9, 13, 16, 18 and 19 ticks.
+try 'margins of a long search' 0 'task 0 margin 3\ntask 1 margin 2\ntask 2 margin 1\n' '' $margins < <(printf '4 1\n5 2\n20 6\n')
+late=$(for ((i = 0; i < 64; i++)); do echo "task $i margin $((-60000 * i))"; done)
+try 'margins of 64 jobs' 0 "$late\n" '' $margins < <(lines 64 '60000 60000')
+late=$(for ((i = 0; i < 63; i++)); do echo "task $i margin $((-59999 * i))"; done)
+try 'margins of the latest job' 0 "$late\ntask 63 margin -7559874\n" '' $margins < <(lines 63 '59999 59999'; echo '60000 60000')
+
+# margins: lists that are refused, and text that it cannot read.
+try 'margins with a wrong period' 0 '' 'refused 7 place 1 line 4: the period is not 1 to 60000\n' $margins < <(printf '5 6\n\n# large\n60001 1\n')
+try 'margins with a period of 0' 0 '' 'refused 7 place 0 line 1: the period is not 1 to 60000\n' $margins < <(printf '0 1\n5 2\n')
+try 'margins with a wrong budget' 0 '' 'refused 8 place 1 line 2: the budget is not 1 to the period\n' $margins < <(printf '5 5\n9 10\n')
+try 'margins with a budget of 0' 0 '' 'refused 8 place 63 line 64: the budget is not 1 to the period\n' $margins < <(lines 63 '5 5'; echo '9 0')
+try 'margins of one number' 0 '' "line 3 $no_job" $margins < <(printf '# two numbers a line\n5 1\n9\n')
+try 'margins of a large period' 0 '' 'line 2 has a number above 65535\n' $margins < <(printf '5 2\n65536 1\n')
+try 'margins of a large budget' 0 '' 'line 1 has a number above 65535\n' $margins < <(printf '5 70000 # ticks')
+try 'margins of 65 jobs' 0 '' 'line 65: more than 64 jobs\n' $margins < <(lines 65 '8 1')
+try 'margins of a text too long' 0 '' 'the text is longer than the limit of 65535 bytes\n' $margins < <(printf '5 2#%65532s' '')
+try 'margins of the longest text' 0 'task 0 margin 3\n' '' $margins < <(printf '5 2#%65531s' '')
+
+# margins: arguments, at which nothing is read, and input and output that fail.
+for word in --help JOBS ''; do
+    try "margins '$word'" 0 'left\n' 'usage: margins < JOBS\n' sh -c "$margins '$word'; cat" < <(echo left)
+done
+try 'margins of a directory' 0 '' 'standard input: Is a directory\n' $margins < examples
+try 'margins of a closed input' 0 '' 'standard input: Bad file descriptor\n' sh -c "$margins <&-"
+try 'margins of an input that breaks off' 0 '' 'standard input: Input/output error\n' broken $margins
+try 'margins to a full device' 0 '' 'standard output: No space left on device\n' sh -c "$margins > /dev/full" < examples/full-core.jobs
 echo "programs: $cases cases"

@@ -5,7 +5,7 @@ ghost use mathlib.Core.Path.{_≡_};
 ghost use lib.ListN.{length};
 ghost use Rattle.io.specs.Counts.{Counts};
 ghost use Rattle.fit.specs.Fits.{within as withinOf};
-ghost use Rattle.cards.specs.Cards.{header, listed as listedSheet, seven, jobsG, jobsH, jobsI, jobsL, jobsN, jobsR, jobsS, jobsT, unchained as unchainedSheet, nearlyFull, overfull as overfullSheet};
+ghost use Rattle.cards.specs.Cards.{header, listed as listedSheet, seven, jobsG, jobsH, jobsI, jobsL, jobsN, jobsR, jobsS, jobsT, jobsV, jobsW, unchained as unchainedSheet, nearlyFull, overfull as overfullSheet};
 use checker::Verdict;
 use dispatcher::Answer;
 use dispatcher::Core;
@@ -13,6 +13,7 @@ use dispatcher::Step;
 use fit::By;
 use libc::STDOUT_FILENO;
 use listing::Listed;
+use margin::Slack;
 use planner::Planned;
 use sheet::Refusal;
 
@@ -103,6 +104,18 @@ fn jobs_t() -> [u8; 28]
     ensures { λ r. ⌜ r ≡ jobsT ⌝ }
 {
     *b"\x10\x00\x02\x00\x05\x00\x03\x00\x1b\x00\x07\x00\x17\x00\x09\x00\x0c\x00\x08\x00\x09\x00\x03\x00\x19\x00\x03\x00"
+}
+
+fn jobs_v() -> [u8; 12]
+    ensures { λ r. ⌜ r ≡ jobsV ⌝ }
+{
+    *b"\x05\x00\x02\x00\x07\x00\x04\x00\x23\x00\x01\x00"
+}
+
+fn jobs_w() -> [u8; 12]
+    ensures { λ r. ⌜ r ≡ jobsW ⌝ }
+{
+    *b"\x04\x00\x01\x00\x04\x00\x02\x00\x03\x00\x01\x00"
 }
 
 fn unchained() -> [u8; 36]
@@ -360,6 +373,31 @@ fn cards_r_to_t() {
     plan_card(b"T", &jobs_t(), 3, 5, &mut out);
 }
 
+fn print_margin(jobs: &[u8], task: u64) {
+    let slack = margin::margin(jobs, task);
+    match slack {
+        Slack::Ticks(m) => {
+            if m < 0 {
+                print(b" -");
+            } else {
+                print(b" ");
+            }
+            io::print_decimal(STDOUT_FILENO, margin::magnitude(m));
+        }
+        Slack::Refused { word, place } => print_refused(word, place),
+    }
+}
+
+// Cards V and W: the margins of three tasks, and what a fourth number answers.
+fn margin_card(name: &[u8], jobs: &[u8]) {
+    print(name);
+    print_margin(jobs, 0);
+    print_margin(jobs, 1);
+    print_margin(jobs, 2);
+    print_margin(jobs, 3);
+    print(b"\n");
+}
+
 // The listing of a sheet.
 fn print_listing(sheet: &[u8]) {
     let mut text = [0u8; 8192];
@@ -386,6 +424,8 @@ fn main() {
     check_card(b"P", &nearly_full());
     check_card(b"Q", &overfull());
     cards_r_to_t();
+    margin_card(b"V", &jobs_v());
+    margin_card(b"W", &jobs_w());
     print_listing(&listed(6, 4));
     print_listing(&listed(7, 4));
     print_listing(&nearly_full());

@@ -1,21 +1,25 @@
 -- Where every task of a list has a t within its period that meets its demand, every run from the fresh tasks is on time.
 -- Assumes nothing.
-use Prim.Native.Nat.{ℕ, _+_, _*_, _≤_}
-use mathlib.Core.Path.{_≡_, refl, sym, subst, _∙_}
+use Prim.Native.Nat.{ℕ, suc, _+_, _*_, _≤_}
+use mathlib.Core.Path.{_≡_, refl, sym, ap, subst, _∙_}
 use mathlib.Core.List.{List, [], _∷_, _++_}
 use native.Mathlib.Nat.{mul-one}
-use lib.Seq.{append-snoc}
+use lib.ListN.{length, take, length-append}
+use lib.Seq.{append-snoc, take-at, getD-at}
 use native.Mathlib.Omega.{arith}
 use Rattle.fit.specs.Lists.{sum, Each}
 use Rattle.fit.specs.Rounding.{ceiling}
 use Rattle.fit.proofs.Lists.{each-halves, each-split, sum-append}
+use Rattle.timing.specs.declared.Task.{Task}
 use Rattle.timing.specs.Calls.{Call, answer, next, log}
 use Rattle.timing.specs.Form.{Form}
-use Rattle.timing.specs.OnTime.{OnTime}
+use Rattle.timing.specs.OnTime.{EndsBy, OnTime}
+use Rattle.timing.specs.Serving.{nth, noTask}
 use Rattle.timing.proofs.Rate.{sumOf, rate}
 use Rattle.timing.proofs.Demand.{Demand}
-use Rattle.dispatcher.specs.Starts.{freshTasks}
-use Rattle.dispatcher.proofs.Schedule.{fresh-demand, fresh-later}
+use Rattle.timing.proofs.Alone.{alone-on-time}
+use Rattle.dispatcher.specs.Starts.{freshTask, freshTasks}
+use Rattle.dispatcher.proofs.Schedule.{fresh-length, all-fresh, fresh-demand, fresh-later}
 use Rattle.margin.specs.Margin.{request}
 use Rattle.margin.proofs.Rounds.{ceiling-one, ceiling-window}
 use Rattle.margin.proofs.Demands.{Fits}
@@ -57,3 +61,23 @@ module _ (p e w : ℕ → ℕ) (l : List ℕ) (form : Form (freshTasks p e l)) (
 
   pub fits-on-time : (v : ℕ → ℕ) → Each (λ i. w i ≤ v i) l → (cs : List Call) → OnTime v e (log answer next (freshTasks p e l) cs)
   fits-on-time v h cs = fresh-later p e w l form bounds room v h cs
+
+-- two parts of a list
+pub fresh-append : (p e : ℕ → ℕ) (xs ys : List ℕ) → freshTasks p e (xs ++ ys) ≡ freshTasks p e xs ++ freshTasks p e ys
+unfolding freshTasks
+fresh-append p e [] ys = refl
+fresh-append p e (x ∷ xs) ys = ap (λ t. freshTask (p x) (e x) x ∷ t) (fresh-append p e xs ys)
+
+-- Where one task meets the demand of its level at w, within its period, every log keeps its jobs within w, whatever the others do.
+pub fits-alone : (p e : ℕ → ℕ) (l xs : List ℕ) (i : ℕ) (ys : List ℕ) (w : ℕ) → Form (freshTasks p e l) → Each (λ j. 1 ≤ p j) l → l ≡ xs ++ i ∷ ys → Fits (level p e xs i) (p i) w → (cs : List Call) → EndsBy w (e i) i (log answer next (freshTasks p e l) cs)
+unfolding freshTasks
+fits-alone p e l xs i ys w form periods s f cs = alone-on-time w (e i) i (length higher) (freshTasks p e l) form (all-fresh p e l) (omega (arith, fresh-length p e l, ap length s, fresh-length p e xs, length-append xs (i ∷ ys))) (ap (λ t. t .number) place) (ap (λ t. t .budget) place) (omega (arith, f .to, ap (λ t. t .period) place)) (rw front (omega (arith, level-window p e w l xs i ys (f .from) (f .to) periods s, f .enough))) cs
+  where
+    higher : List Task
+    higher = freshTasks p e xs
+
+    place : nth (freshTasks p e l) (length higher) ≡ freshTask (p i) (e i) i
+    place = ap (λ x. nth (freshTasks p e x) (length higher)) s ∙ ap (λ x. nth x (length higher)) (fresh-append p e xs (i ∷ ys)) ∙ getD-at higher (freshTask (p i) (e i) i) (freshTasks p e ys) noTask (length higher) refl
+
+    front : take (suc (length higher)) (freshTasks p e l) ≡ freshTasks p e (xs ++ i ∷ [])
+    front = ap (λ x. take (suc (length higher)) (freshTasks p e x)) (s ∙ sym (append-snoc xs i ys)) ∙ ap (take (suc (length higher))) (fresh-append p e (xs ++ i ∷ []) ys) ∙ take-at (freshTasks p e (xs ++ i ∷ [])) (freshTasks p e ys) (suc (length higher)) (omega (arith, fresh-length p e (xs ++ i ∷ []), length-append xs (i ∷ []), fresh-length p e xs))

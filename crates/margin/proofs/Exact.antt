@@ -8,7 +8,7 @@ use mathlib.Core.Bool.{Bool, true, false, cond}
 use mathlib.Core.Option.{Option, none, some}
 use mathlib.Core.List.{List, [], _∷_, _++_}
 use native.Mathlib.Omega.{arith}
-use lib.Dec.{ltb}
+use lib.Dec.{ltb, le→leb}
 use lib.IntN.{ℤ, pos}
 use lib.Signed.{_≤ℤ_}
 use borrow.Author.Tests.{ltb-true, lt-ltb}
@@ -20,7 +20,7 @@ use Rattle.fit.specs.Priority.{above, Above}
 use Rattle.fit.specs.Ring.{orderBy}
 use Rattle.fit.specs.Fits.{within}
 use Rattle.fit.specs.Cores.{orderOn, withinOn}
-use Rattle.fit.proofs.Lists.{each-of, each-both, each-split, each-between, each-occurs, sum-select}
+use Rattle.fit.proofs.Lists.{each-of, each-split, each-between, each-occurs, sum-select}
 use Rattle.fit.proofs.Priority.{order-sum, order-members, order-holds, order-rising}
 use Rattle.fit.proofs.Rings.{all-tasks}
 use Rattle.jobs.specs.Jobs.{jobCount, jobPeriod, jobBudget, listRows, Listed}
@@ -31,7 +31,7 @@ use Rattle.checker.proofs.Acceptance.{core-of}
 use Rattle.timing.specs.declared.Task.{Task}
 use Rattle.timing.specs.Calls.{Call, release, answer, next, log}
 use Rattle.timing.specs.Form.{Form}
-use Rattle.timing.specs.OnTime.{EndsWithin, OnTime}
+use Rattle.timing.specs.OnTime.{EndsBy, OnTime}
 use Rattle.dispatcher.specs.Operations.{ask, step}
 use Rattle.dispatcher.specs.Starts.{freshTasks, stateOf, listAnswer, listState, FreshCore}
 use Rattle.dispatcher.proofs.Logs.{log-form}
@@ -39,9 +39,9 @@ use Rattle.dispatcher.proofs.Starts.{state-tasks, state-places, state-form, lis
 use Rattle.dispatcher.proofs.Schedule.{level-room}
 use Rattle.margin.specs.Margin.{tasksAbove, request, demand, smallest, spare, margin}
 use Rattle.margin.specs.Answers.{ticks, refused, marginIn, answerFrom, marginAnswer}
-use Rattle.margin.specs.Exact.{NoneBelow, NonePending, benchLog, LessMargin, PendingAfter, Exact, AtLeast}
+use Rattle.margin.specs.Exact.{NoneBelow, NonePending, benchLog, PendingAfter, Exact, AtLeast}
 use Rattle.margin.proofs.Demands.{demand-level, Fits, Short, response, fits-or-short, fits-margin, fits-positive, positive-fits, spare-response, response-short}
-use Rattle.margin.proofs.Enough.{level, level-window, EachFits, fits-on-time}
+use Rattle.margin.proofs.Enough.{level, level-window, EachFits, fits-on-time, fits-alone}
 use Rattle.margin.proofs.Releases.{rounds}
 use Rattle.margin.proofs.Needed.{afterRelease, whole, first, ticks-after, not-ended, fits-front, each-fits}
 
@@ -83,10 +83,10 @@ state-log ts form cs = log-form cs (stateOf ts) (state-places ts (form .count)) 
 refused-exact : (l : List ℕ) (r : Refused) → scan (listRows 0 l) ≡ some r → Exact l
 unfolding NoneBelow NonePending marginAnswer answerFrom listState freshTasks Each EachPair
 refused-exact l r x = record {
-  enough = λ h cs. rule (jobPeriod l) cs .ends;
+  enough = λ h cs j. rule (jobPeriod l) cs .ends j;
   needed = λ h j m a. absurd (none-answered j m a);
   on-time = λ h. rule (jobPeriod l);
-  sooner = λ h w g. rule w;
+  ends = λ j m t a. absurd (none-answered j (pos m) a);
   no-sooner = λ h j m t a. absurd (none-answered j (pos m) a);
 }
   where
@@ -185,15 +185,24 @@ module _ (l : List ℕ) (clear : none ≡ scan (listRows 0 l)) where
   on-time : NoneBelow l → (cs : List Call) → OnTime p e (benchLog l cs)
   on-time h cs = rule h p (each-of ord (λ i f. f .to) (all-fit h)) cs
 
-  sooner : NoneBelow l → (v : ℕ → ℕ) → LessMargin l v → (cs : List Call) → OnTime v e (benchLog l cs)
-  unfolding LessMargin
-  sooner h v less cs = rule h v (each-both ord (λ i lt f. omega (arith, less i (p i - w i) (answered i lt ∙ ap ticks (left-over i f)), f .to)) members (all-fit h)) cs
+  -- one task alone
+  alone : (cs : List Call) → Each (λ i. Fits (demand p e ord i) (p i) (w i) → EndsBy (w i) (e i) i (benchLog l cs)) ord
+  alone cs = each-split _ ord (λ xs i ys s f. subst (EndsBy (w i) (e i) i) (sym (bench cs)) (fits-alone p e ord xs i ys (w i) form periods s (subst (λ d. Fits d (p i) (w i)) (levels p e ord rising xs i ys s) f) cs))
+
+  ends : (j m t : ℕ) → marginAnswer l j ≡ ticks (pos m) → t + m ≡ p j → (cs : List Call) → EndsBy t (e j) j (benchLog l cs)
+  ends j m t a n cs =
+      let k = answers j (pos m) a in
+      let f = margin-in-fits j (k .0) (subst (λ z. pos 0 ≤ℤ z) (sym (k .1)) (record { le = le→leb 0 m (omega arith) })) in
+      let same : pos (p j - w j) ≡ pos m = sym (left-over j f) ∙ k .1 in
+      let q : p j - w j ≡ m = cc in
+      let z : w j ≡ t = omega (arith, f .to) in
+      subst (λ v. EndsBy v (e j) j (benchLog l cs)) z (in-order _ j (pos m) a (alone cs) f)
 
   -- needed
   needed : NonePending l → NoneBelow l
   unfolding NonePending NoneBelow
   needed h j m a =
-      let fits = each-fits p e w ord form periods budgets (λ cs. subst (EndsWithin p e) (bench cs) (h cs)) (pick p e ord rising) in
+      let fits = each-fits p e w ord form periods budgets (λ cs i. subst (EndsBy (p i) (e i) i) (bench cs) (h cs i)) (pick p e ord rising) in
       subst (λ z. pos 0 ≤ℤ z) (answers j m a .1) (fits-margin-in j (in-order _ j m a (level-fits p e ord rising w fits)))
 
   -- no sooner
@@ -226,7 +235,7 @@ module _ (l : List ℕ) (clear : none ≡ scan (listRows 0 l)) where
 
   clear-exact : Exact l
   unfolding NonePending
-  clear-exact = record { enough = λ h cs. on-time h cs .ends; needed = needed; on-time = on-time; sooner = sooner; no-sooner = no-sooner }
+  clear-exact = record { enough = λ h cs j. on-time h cs .ends j; needed = needed; on-time = on-time; ends = ends; no-sooner = no-sooner }
 
 -- The margins of a job list are exact.
 pub exact : (l : List ℕ) → Exact l

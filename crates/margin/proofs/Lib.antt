@@ -1,5 +1,6 @@
 pub mod Rounds
 pub mod Difference
+pub mod Signs
 pub mod Requests
 pub mod Search
 pub mod Gather

@@ -17,7 +17,7 @@ use Rattle.timing.specs.declared.Task.{Task}
 use Rattle.timing.specs.Tasks.{early, pending, withJob}
 use Rattle.timing.specs.Calls.{Call, release, tick, Answer, accepted, releaseAnswer, answer, next, Entry, entry, log, run}
 use Rattle.timing.specs.Form.{Sound, Distinct, Above, Form, Fresh}
-use Rattle.timing.specs.OnTime.{count, toTick, isTick, Ended, EndsWithin}
+use Rattle.timing.specs.OnTime.{count, toTick, isTick, Ended, EndsBy}
 use Rattle.timing.specs.Serving.{nth, noTask, toRelease, isRelease}
 use Rattle.timing.proofs.Rate.{sumOf}
 use Rattle.timing.proofs.Runs.{count-cut, tick-entry, run-kept}
@@ -32,7 +32,7 @@ use Rattle.dispatcher.proofs.Schedule.{all-fresh, fresh-each, fresh-budgets}
 use Rattle.margin.specs.Margin.{request}
 use Rattle.margin.proofs.Rounds.{ceiling-zero}
 use Rattle.margin.proofs.Demands.{Fits, Short}
-use Rattle.margin.proofs.Enough.{level, EachFits, fits-demand}
+use Rattle.margin.proofs.Enough.{level, EachFits, fits-demand, fresh-append}
 use Rattle.margin.proofs.Releases.{rounds, numbersOf, take-run, release-at, count-rounds}
 use Rattle.margin.proofs.Worst.{asked, Timed, Held, rounds-held}
 
@@ -50,12 +50,12 @@ module _ (p e : ℕ → ℕ) (s : List Task) (i : ℕ) (cs : List Call) (first :
   whole = ap (λ a. entry (release i) a ∷ after) first
 
   -- where a job ends within its period, it has ended once p ticks have passed
-  ended-by : EndsWithin p e (log answer next s (release i ∷ cs)) → 1 ≤ p i → count isTick after ≡ p i → Ended (e i) i after
+  ended-by : EndsBy (p i) (e i) i (log answer next s (release i ∷ cs)) → 1 ≤ p i → count isTick after ≡ p i → Ended (e i) i after
   ended-by h pos n =
       let c = count-cut isTick (p i - 1) after (omega arith) in
       let t = tick-entry (c .hit) (c .passes) in
       let cut : after ≡ c .front ++ entry tick (t .0) ∷ c .back = c .whole ∙ ap (λ x. c .front ++ x ∷ c .back) (t .1) in
-      let d = h [] (c .front) (c .back) i (t .0) (whole ∙ ap (λ x. entry (release i) accepted ∷ x) cut) (omega (arith, c .before)) in
+      let d = h [] (c .front) (c .back) (t .0) (whole ∙ ap (λ x. entry (release i) accepted ∷ x) cut) (omega (arith, c .before)) in
       subst (Ended (e i) i) (append-snoc (c .front) (entry tick (t .0)) (c .back) ∙ sym cut) (ended-append (e i) i (c .front ++ entry tick (t .0) ∷ []) (c .back) d)
 
   -- once it has ended, the task at place k, which is task i with its budget, has nothing left
@@ -120,11 +120,6 @@ form-take k s f = record {
 fresh-accepted : (p e i : ℕ) → releaseAnswer (freshTask p e i) ≡ accepted
 unfolding releaseAnswer early pending
 fresh-accepted p e i = rw (le-ltb p p (omega arith))
-
-fresh-append : (p e : ℕ → ℕ) (xs ys : List ℕ) → freshTasks p e (xs ++ ys) ≡ freshTasks p e xs ++ freshTasks p e ys
-unfolding freshTasks
-fresh-append p e [] ys = refl
-fresh-append p e (x ∷ xs) ys = ap (λ t. freshTask (p x) (e x) x ∷ t) (fresh-append p e xs ys)
 
 -- a task i below tasks xs that all fit: as long as no t up to n meets its demand, its job is pending after n rounds of the worst run
 module _ (p e w : ℕ → ℕ) (xs : List ℕ) (i : ℕ) (ys : List ℕ) (form : Form (freshTasks p e (xs ++ i ∷ ys))) (periods : Each (λ j. 1 ≤ p j) (xs ++ i ∷ ys)) (budget : 1 ≤ e i) (fits : EachFits p e w xs) (n : ℕ) (short : Short (level p e xs i) n) where
@@ -193,7 +188,7 @@ module _ (p e w : ℕ → ℕ) (xs : List ℕ) (i : ℕ) (ys : List ℕ) (form :
       not-counted j a d = let x : eqb j i ≡ false = ne-eqb _ _ d in rw x
 
   -- so it does not end within a period of n
-  late : ((cs : List Call) → EndsWithin p e (log answer next all cs)) → p i ≡ n → ⊥
+  late : ((cs : List Call) → EndsBy (p i) (e i) i (log answer next all cs)) → p i ≡ n → ⊥
   late h z = not-ended (ended-by p e all i cs first (h (release i ∷ cs)) (each-between _ xs i ys refl periods) (ticks-after ∙ sym z))
 
 -- where each task of a list fits, so does each of those before one of them
@@ -201,12 +196,12 @@ pub fits-front : (p e w : ℕ → ℕ) (l xs : List ℕ) (i : ℕ) (ys : List �
 fits-front p e w l xs i ys s h us j vs t = h us j (vs ++ i ∷ ys) (s ∙ ap (λ (x : List ℕ). x ++ i ∷ ys) t ∙ append-assoc us (j ∷ vs) (i ∷ ys))
 
 -- where each task fits or falls short, and no run leaves a job pending, each fits
-module _ (p e w : ℕ → ℕ) (l : List ℕ) (form : Form (freshTasks p e l)) (periods : Each (λ j. 1 ≤ p j) l) (budgets : Each (λ j. 1 ≤ e j) l) (h : (cs : List Call) → EndsWithin p e (log answer next (freshTasks p e l) cs)) (pick : (xs : List ℕ) (i : ℕ) (ys : List ℕ) → l ≡ xs ++ i ∷ ys → Fits (level p e xs i) (p i) (w i) ⊎ Short (level p e xs i) (p i)) where
+module _ (p e w : ℕ → ℕ) (l : List ℕ) (form : Form (freshTasks p e l)) (periods : Each (λ j. 1 ≤ p j) l) (budgets : Each (λ j. 1 ≤ e j) l) (h : (cs : List Call) (j : ℕ) → EndsBy (p j) (e j) j (log answer next (freshTasks p e l) cs)) (pick : (xs : List ℕ) (i : ℕ) (ys : List ℕ) → l ≡ xs ++ i ∷ ys → Fits (level p e xs i) (p i) (w i) ⊎ Short (level p e xs i) (p i)) where
   fits-before : (n : ℕ) (xs : List ℕ) (i : ℕ) (ys : List ℕ) → length xs < n → l ≡ xs ++ i ∷ ys → Fits (level p e xs i) (p i) (w i)
   fits-before zero xs i ys lt s = absurd (omega arith)
   fits-before (suc n) xs i ys lt s =
       let prior : EachFits p e w xs = λ us j vs t. fits-before n us j (vs ++ i ∷ ys) (omega (arith, ap length t, length-append us (j ∷ vs))) (s ∙ ap (λ (x : List ℕ). x ++ i ∷ ys) t ∙ append-assoc us (j ∷ vs) (i ∷ ys)) in
-      ⊎-elim (λ f. f) (λ short. absurd (late p e w xs i ys (subst (λ x. Form (freshTasks p e x)) s form) (subst (Each (λ j. 1 ≤ p j)) s periods) (each-between _ xs i ys s budgets) prior (p i) short (λ cs. subst (λ x. EndsWithin p e (log answer next (freshTasks p e x) cs)) s (h cs)) refl)) (pick xs i ys s)
+      ⊎-elim (λ f. f) (λ short. absurd (late p e w xs i ys (subst (λ x. Form (freshTasks p e x)) s form) (subst (Each (λ j. 1 ≤ p j)) s periods) (each-between _ xs i ys s budgets) prior (p i) short (λ cs. subst (λ x. EndsBy (p i) (e i) i (log answer next (freshTasks p e x) cs)) s (h cs i)) refl)) (pick xs i ys s)
 
   pub each-fits : EachFits p e w l
   each-fits xs i ys s = fits-before (suc (length xs)) xs i ys (omega arith) s

@@ -10,7 +10,7 @@ use Rattle.fit.specs.Lists.{Each}
 use Rattle.fit.specs.Cores.{orderOn, withinOn}
 use Rattle.jobs.specs.Jobs.{jobPeriod, jobBudget, listRows}
 use Rattle.timing.specs.Calls.{Call, release, accepted, Entry, entry, log}
-use Rattle.timing.specs.OnTime.{count, isTick, Ended, EndsWithin, OnTime}
+use Rattle.timing.specs.OnTime.{count, isTick, Ended, EndsBy, OnTime}
 use Rattle.dispatcher.specs.Operations.{ask, step}
 use Rattle.dispatcher.specs.Starts.{listState}
 use Rattle.margin.specs.Margin.{margin}
@@ -26,11 +26,7 @@ benchLog l cs = log ask step (listState (scan (listRows 0 l)) l) cs
 
 -- no run from the bench start leaves a job pending once p ticks have passed since its release
 unfoldable pub NonePending : List ℕ → Type 0
-NonePending l = (cs : List Call) → EndsWithin (jobPeriod l) (jobBudget l) (benchLog l cs)
-
--- w is the period less the margin, for each task of a list
-unfoldable pub LessMargin : List ℕ → (ℕ → ℕ) → Type 0
-LessMargin l w = (j m : ℕ) → marginAnswer l j ≡ ticks (pos m) → w j + m ≡ jobPeriod l j
+NonePending l = (cs : List Call) (j : ℕ) → EndsBy (jobPeriod l j) (jobBudget l j) j (benchLog l cs)
 
 -- a run from the bench start in which a job of task j has not ended once t ticks have passed since its release
 pub record PendingAfter (l : List ℕ) (j t : ℕ) : Type 0 where
@@ -46,10 +42,11 @@ pub record Exact (l : List ℕ) : Type 0 where
   -- every margin is zero or more exactly when no run leaves a job pending once its period has passed
   pub enough : NoneBelow l → NonePending l
   pub needed : NonePending l → NoneBelow l
-  -- then every run obeys the on-time rule with the periods, and even with the periods less the margins,
+  -- then every run obeys the on-time rule with the periods
   pub on-time : NoneBelow l → (cs : List Call) → OnTime (jobPeriod l) (jobBudget l) (benchLog l cs)
-  pub sooner : NoneBelow l → (w : ℕ → ℕ) → LessMargin l w → (cs : List Call) → OnTime w (jobBudget l) (benchLog l cs)
-  -- but not sooner: some job of each task is pending until then
+  -- whatever the other margins are, a margin m of zero or more leaves each job of its task m ticks to spare
+  pub ends : (j m t : ℕ) → marginAnswer l j ≡ ticks (pos m) → t + m ≡ jobPeriod l j → (cs : List Call) → EndsBy t (jobBudget l j) j (benchLog l cs)
+  -- and where no margin is below zero, no more than these: some job of the task is pending until then
   pub no-sooner : NoneBelow l → (j m t : ℕ) → marginAnswer l j ≡ ticks (pos m) → t + m < jobPeriod l j → PendingAfter l j t
 
 -- on core k of sheet s each margin is at least p - w

@@ -3,7 +3,7 @@ ghost use mathlib.Core.Path.{_≡_};
 ghost use mathlib.Core.Bool.{cond};
 ghost use Prim.Native.Nat.{_+_, _*_, _≤_, _<_};
 ghost use lib.ListN.{length};
-ghost use lib.IntN.{pos, _-ℤ_};
+ghost use lib.IntN.{pos, _-ℤ_, natAbs};
 ghost use Rattle.fit.specs.Lists.{numbers};
 ghost use Rattle.fit.specs.Rounding.{ceiling};
 ghost use Rattle.fit.specs.Priority.{higher};
@@ -155,4 +155,14 @@ pub fn margin(list: &[u8], number: u64) -> Slack
             Slack::Ticks(margin_of(list, n as u8, number as u8))
         }
     }
+}
+
+// A margin without its sign.
+pub fn magnitude(m: i32) -> u64
+    ensures { λ r. ⌜ r ≡ natAbs m ⌝ }
+{
+    if m < 0 {
+        return (-(m as i64)) as u64;
+    }
+    m as u64
 }

@@ -4,13 +4,9 @@ ghost use mathlib.Core.Path.{_≡_};
 ghost use Prim.Native.Nat.{_≤_};
 ghost use Rattle.jobtext.specs.Text.{isDigit};
 ghost use Rattle.plan.specs.Number.{longer, numberIn};
-use input::Input;
-use jobtext::Fault;
-use jobtext::Read;
-use libc::STDERR_FILENO;
+use jobinput::Given;
 use libc::STDOUT_FILENO;
 use planner::Planned;
-use sheet::Refusal;
 
 // What an argument is.
 enum Number {
@@ -63,67 +59,8 @@ fn argument(i: usize, absent: u64) -> Number {
     read_number(&text[..n])
 }
 
-fn say(text: &[u8]) {
-    io::write_all(STDERR_FILENO, text);
-}
-
-fn say_number(n: u64) {
-    io::print_decimal(STDERR_FILENO, n);
-}
-
 fn say_usage() {
-    say(b"usage: plan [LIMIT [START]] < JOBS > SHEET\n");
-}
-
-fn say_line(line: u64, fault: Fault) {
-    say(b"line ");
-    say_number(line);
-    match fault {
-        Fault::NoJob => say(b" is not a job: a line has a period and a budget\n"),
-        Fault::Large => say(b" has a number above 65535\n"),
-        Fault::Full => say(b": more than 64 jobs\n"),
-    }
-}
-
-// Whether the place of a refusal is a job.
-fn is_of_job(word: Refusal) -> bool {
-    match word {
-        Refusal::Period => true,
-        Refusal::Budget => true,
-        Refusal::NoFit => true,
-        _ => false,
-    }
-}
-
-// Why there is no plan, for a list that is empty or not. The text has at most 64 jobs, so the word Count is of the core limit.
-fn say_reason(word: Refusal, empty: bool) {
-    match word {
-        Refusal::Count => say(b": the core limit is above 8"),
-        Refusal::Period => say(b": the period is not 1 to 60000"),
-        Refusal::Budget => say(b": the budget is not 1 to the period"),
-        Refusal::NoFit => say(b": no core takes this job"),
-        Refusal::Start => {
-            if empty {
-                say(b": the start of an empty list is not 0");
-            } else {
-                say(b": the start is not below the number of jobs");
-            }
-        }
-        _ => {}
-    }
-}
-
-fn say_refused(word: Refusal, place: u16, text: &[u8], empty: bool) {
-    say(b"refused ");
-    say_number(sheet::number(word) as u64);
-    say(b" place ");
-    say_number(place as u64);
-    if is_of_job(word) {
-        say(b" line ");
-        say_number(jobtext::line_of(text, place as usize));
-    }
-    say_reason(word, empty);
-    say(b"\n");
+    jobinput::say(b"usage: plan [LIMIT [START]] < JOBS > SHEET\n");
 }
 
 // Plans the job list of a text and writes the sheet.
@@ -131,7 +68,9 @@ fn plan_jobs(text: &[u8], jobs: &[u8], limit: u64, start: u64) {
     let mut sheet = [0u8; 712];
     let planned = planner::plan(jobs, limit, start, &mut sheet);
     match planned {
-        Planned::Refused { word, place } => say_refused(word, place, text, jobs.len() == 0),
+        Planned::Refused { word, place } => {
+            jobinput::say_refused(word, place, text, jobs.len() == 0)
+        }
         Planned::Written {
             tasks: _,
             cores: _,
@@ -145,31 +84,13 @@ fn plan_jobs(text: &[u8], jobs: &[u8], limit: u64, start: u64) {
     }
 }
 
-fn plan_text(text: &[u8], limit: u64, start: u64) {
-    let mut jobs = [0u8; 256];
-    let read = jobtext::read_jobs(text, &mut jobs);
-    match read {
-        Read::Wrong(line, fault) => say_line(line, fault),
-        Read::Jobs(length) => {
-            let end = length as usize;
-            plan_jobs(text, &jobs[..end], limit, start);
-        }
-    }
-}
-
-// A text that fills the buffer has more than 65,535 bytes.
 fn plan_input(limit: u64, start: u64) {
     let mut text = io::large_buffer();
-    let got = input::read_input(&mut text);
-    match got {
-        Input::Failed => os::fail(b"standard input"),
-        Input::Bytes(n) => {
-            if n == 65536 {
-                say(b"the text is longer than the limit of 65535 bytes\n");
-                return;
-            }
-            plan_text(&text[..n], limit, start);
-        }
+    let mut jobs = [0u8; 256];
+    let given = jobinput::read_list(&mut text, &mut jobs);
+    match given {
+        Given::Nothing => {}
+        Given::Jobs { text: t, jobs: n } => plan_jobs(&text[..t], &jobs[..n], limit, start),
     }
 }
 

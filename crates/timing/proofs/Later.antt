@@ -20,12 +20,12 @@ module _ (w p e : ℕ → ℕ) (l : List Entry) (h : OnTime w e l) (b : (before 
   cut-ends : (before xs rest us vs : List Entry) (j : ℕ) (a t : Answer) → l ≡ before ++ entry (release j) accepted ∷ (xs ++ entry tick a ∷ rest) → xs ++ entry tick a ∷ [] ≡ us ++ entry tick t ∷ vs → count isTick us + 1 ≡ w j → Ended (e j) j (xs ++ entry tick a ∷ [])
   cut-ends before xs rest us vs j a t s cut n =
       let whole : xs ++ entry tick a ∷ rest ≡ us ++ entry tick t ∷ (vs ++ rest) = sym (append-snoc xs (entry tick a) rest) ∙ ap (λ x. x ++ rest) cut ∙ append-assoc us (entry tick t ∷ vs) rest in
-      let d = h .ends before us (vs ++ rest) j t (s ∙ ap (λ x. before ++ entry (release j) accepted ∷ x) whole) (omega arith) in
+      let d = h .ends j before us (vs ++ rest) t (s ∙ ap (λ x. before ++ entry (release j) accepted ∷ x) whole) (omega arith) in
       subst (Ended (e j) j) (append-snoc us (entry tick t) vs ∙ sym cut) (ended-append (e j) j (us ++ entry tick t ∷ []) vs d)
 
-  later-ends : (before xs rest : List Entry) (j : ℕ) (a : Answer) → l ≡ before ++ entry (release j) accepted ∷ (xs ++ entry tick a ∷ rest) → count isTick xs + 1 ≡ p j → Ended (e j) j (xs ++ entry tick a ∷ [])
+  later-ends : (j : ℕ) (before xs rest : List Entry) (a : Answer) → l ≡ before ++ entry (release j) accepted ∷ (xs ++ entry tick a ∷ rest) → count isTick xs + 1 ≡ p j → Ended (e j) j (xs ++ entry tick a ∷ [])
   unfolding count isTick toTick
-  later-ends before xs rest j a s n =
+  later-ends j before xs rest a s n =
       let k = b before _ j s in
       let c = count-cut isTick (w j - 1) (xs ++ entry tick a ∷ []) (omega (arith, count-append isTick xs (entry tick a ∷ []))) in
       let t = tick-entry (c .hit) (c .passes) in

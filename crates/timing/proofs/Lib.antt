@@ -7,6 +7,7 @@ pub mod Demand
 pub mod Level
 pub mod Machine
 pub mod OnTime
+pub mod Alone
 pub mod Later
 pub mod First
 pub mod Own

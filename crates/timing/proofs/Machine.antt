@@ -28,8 +28,10 @@ pub record Machine {S : Type 0} (ask : Call → S → Answer) (step : Call → S
   pub moves : (c : Call) (s : S) (i : ℕ) → Good s → 0 < view s i .left → (1 ≤ count (isFinish (view s i .number)) (entry c (ask c s) ∷ [])) ⊎ (Goes (entry c (ask c s)) (view s i) (view (step c s) i) × (bound (step c s) (view s i .number) ≡ bound s (view s i .number)))
   -- an accepted release starts a job of the whole budget under the same bound
   pub begins : (j : ℕ) (s : S) → Good s → ask (release j) s ≡ accepted → (i : ℕ) × (view (step (release j) s) i .number ≡ j) × (view (step (release j) s) i .left ≡ budget s j) × (bound (step (release j) s) j ≡ bound s j)
-  -- no call is refused as Late
-  pub punctual : (c : Call) (s : S) → Good s → count (isRefused 19) (entry c (ask c s) ∷ []) ≡ 0
+
+-- no call on a good state is refused as Late
+abbrev pub Punctual : {S : Type 0} → (Call → S → Answer) → (S → Type 0) → Type 0
+Punctual {S} ask Good = (c : Call) (s : S) → Good s → count (isRefused 19) (entry c (ask c s) ∷ []) ≡ 0
 
 -- a job that ends over a log with what one entry more leaves of it, ends over both
 ended-cons : (x : Entry) (l : List Entry) (e e′ j j′ : ℕ) → j′ ≡ j → e ≤ e′ + count (isRun j) (x ∷ []) → Ended e′ j′ l → Ended e j (x ∷ l)
@@ -64,14 +66,14 @@ module _ {S : Type 0} (ask : Call → S → Answer) (step : Call → S → S) (G
       from-release s₁ j (xs ++ entry tick a ∷ []) (run-kept step Good (M .kept) (calls before) s g) (sym (h .0)) l (omega (arith, count-append isTick xs (entry tick a ∷ [])))
 
   -- no call of a log is refused as Late
-  pub never-late : (cs : List Call) (s : S) → Good s → count (isRefused 19) (log ask step s cs) ≡ 0
+  pub never-late : Punctual ask Good → (cs : List Call) (s : S) → Good s → count (isRefused 19) (log ask step s cs) ≡ 0
   unfolding count log
-  never-late [] s g = refl
-  never-late (c ∷ cs) s g = omega (arith, count-cons (isRefused 19) (entry c (ask c s)) (log ask step (step c s) cs), M .punctual c s g, never-late cs (step c s) (M .kept c s g))
+  never-late n [] s g = refl
+  never-late n (c ∷ cs) s g = omega (arith, count-cons (isRefused 19) (entry c (ask c s)) (log ask step (step c s) cs), n c s g, never-late n cs (step c s) (M .kept c s g))
 
 -- where the bounds and budgets in force are the same at every state, the rule holds with them over every log
-pub machine-on-time : {S : Type 0} (ask : Call → S → Answer) (step : Call → S → S) (Good : S → Type 0) (view : S → ℕ → Task) (w e : ℕ → ℕ) → Machine ask step Good view (λ s. w) (λ s. e) → (cs : List Call) (s : S) → Good s → OnTime w e (log ask step s cs)
-machine-on-time ask step Good view w e M cs s g = record {
-  ends = λ before xs rest j a h n. ends-in-time ask step Good view (λ s. w) (λ s. e) M cs s g before xs rest j a h (omega arith);
-  never-late = never-late ask step Good view (λ s. w) (λ s. e) M cs s g;
+pub machine-on-time : {S : Type 0} (ask : Call → S → Answer) (step : Call → S → S) (Good : S → Type 0) (view : S → ℕ → Task) (w e : ℕ → ℕ) → Machine ask step Good view (λ s. w) (λ s. e) → Punctual ask Good → (cs : List Call) (s : S) → Good s → OnTime w e (log ask step s cs)
+machine-on-time ask step Good view w e M n cs s g = record {
+  ends = λ j before xs rest a h m. ends-in-time ask step Good view (λ s. w) (λ s. e) M cs s g before xs rest j a h (omega arith);
+  never-late = never-late ask step Good view (λ s. w) (λ s. e) M n cs s g;
 }

@@ -22,7 +22,7 @@ use Rattle.timing.proofs.Steps.{Release, is-early, is-late, starts, rel
 use Rattle.timing.proofs.Form.{each-of-map, figures-kept, form-kept}
 use Rattle.timing.proofs.Demand.{Demand, number-next, demand-kept}
 use Rattle.timing.proofs.Level.{Level, level-idle, level-kept, level-timely}
-use Rattle.timing.proofs.Machine.{Goes, Machine, machine-on-time}
+use Rattle.timing.proofs.Machine.{Goes, Machine, Punctual, machine-on-time}
 
 -- a state in form whose figures pass the demand test and whose levels are all good
 pub record Good (B w e : ℕ → ℕ) (s : List Task) : Type 0 where
@@ -40,7 +40,7 @@ goes-same x {t} {t′} n e = record {
 }
 
 -- what each call does to a pending job
-release-goes : (j : ℕ) (s : List Task) (i : ℕ) → 0 < nth s i .left → Goes (entry (release j) (answer (release j) s)) (nth s i) (nth (next (release j) s) i)
+pub release-goes : (j : ℕ) (s : List Task) (i : ℕ) → 0 < nth s i .left → Goes (entry (release j) (answer (release j) s)) (nth s i) (nth (next (release j) s) i)
 unfolding next count isTick toTick
 release-goes j s i p = goes-same _ refl (⊎-elim (λ x. x) (λ h. h .1 ∙ released-cases (λ u. u ≡ nth s i) (nth s i) refl (λ x z. absurd (omega arith))) (changed-nth i (changed-named j released releaseAnswer s)))
 
@@ -51,11 +51,11 @@ finish-accepted t p = go (finish-view t)
     go (is-quiet z) = absurd (omega arith)
     go (ends k) = refl
 
-finish-goes : (j : ℕ) (s : List Task) (i : ℕ) → 0 < nth s i .left → (1 ≤ count (isFinish (nth s i .number)) (entry (finish j) (answer (finish j) s) ∷ [])) ⊎ Goes (entry (finish j) (answer (finish j) s)) (nth s i) (nth (next (finish j) s) i)
+pub finish-goes : (j : ℕ) (s : List Task) (i : ℕ) → 0 < nth s i .left → (1 ≤ count (isFinish (nth s i .number)) (entry (finish j) (answer (finish j) s) ∷ [])) ⊎ Goes (entry (finish j) (answer (finish j) s)) (nth s i) (nth (next (finish j) s) i)
 unfolding next answer count isTick toTick named
 finish-goes j s i p = ⊎-elim (λ x. inr (goes-same _ refl x)) (λ h. inl (omega (arith, finish-counts (nth s i .number) j (answer (finish j) s) (sym (eqb-true _ _ (h .0))) (h .2 ∙ finish-accepted _ p)))) (changed-nth i (changed-named j finished finishAnswer s))
 
-tick-goes : (s : List Task) (i : ℕ) → 0 < nth s i .left → nth s i .age < nth s i .period → Goes (entry tick (answer tick s)) (nth s i) (nth (next tick s) i)
+pub tick-goes : (s : List Task) (i : ℕ) → 0 < nth s i .left → nth s i .age < nth s i .period → Goes (entry tick (answer tick s)) (nth s i) (nth (next tick s) i)
 unfolding next answer older used withJob count isTick toTick
 tick-goes s i p y =
     let e : nth (map older (modify pending used s)) i ≡ older (nth (modify pending used s) i) = List·getD-map older (modify pending used s) i noTask in
@@ -127,14 +127,16 @@ module _ (B w e : ℕ → ℕ) where
 
   -- the laws of the on-time rule hold for lists of tasks
   pub list-machine : Machine answer next (Good B w e) nth (λ s. w) (λ s. e)
-  unfolding count isRefused
   list-machine = record {
     kept = good-kept;
     timely = timely;
     moves = λ c s i g p. ⊎-elim inl (λ m. inr (m, refl)) (moves c s i g p);
     begins = λ j s g a. let b = begins j s g a in (b .0, b .1, b .2, refl);
-    punctual = λ c s g. rw (not-late c s g);
   }
+
+  punctual : Punctual answer (Good B w e)
+  unfolding count isRefused
+  punctual c s g = rw (not-late c s g)
 
   -- a state in which nothing is pending is good, whatever the ages are
   pub good-idle : (s : List Task) → Form s → Each (λ t. t .left ≡ 0) s → Demand B w s → Each (λ t. e (t .number) ≡ t .budget) s → Good B w e s
@@ -148,4 +150,4 @@ module _ (B w e : ℕ → ℕ) where
 -- The on-time theorem. From a fresh state in form whose figures pass the demand test, every log obeys the on-time rule with the bounds w
 -- and the budgets e.
 pub on-time : (B w e : ℕ → ℕ) (s : List Task) → Form s → Each Fresh s → Demand B w s → Each (λ t. e (t .number) ≡ t .budget) s → (cs : List Call) → OnTime w e (log answer next s cs)
-on-time B w e s f h d b cs = machine-on-time answer next (Good B w e) nth w e (list-machine B w e) cs s (good-idle B w e s f (each-of s (λ t x. x .left) h) d b)
+on-time B w e s f h d b cs = machine-on-time answer next (Good B w e) nth w e (list-machine B w e) (punctual B w e) cs s (good-idle B w e s f (each-of s (λ t x. x .left) h) d b)

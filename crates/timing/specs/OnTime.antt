@@ -63,12 +63,11 @@ isRefused n (entry c a) = refusedWith n a
 unfoldable pub Ended : ℕ → ℕ → List Entry → Type 0
 Ended e j l = (e ≤ count (isRun j) l) ⊎ (1 ≤ count (isFinish j) l)
 
--- The rule for a whole log, with w and e by task number. Wherever a release of j was accepted and w ticks follow it, the job has ended by
--- the w-th of them;
-abbrev pub EndsWithin : (ℕ → ℕ) → (ℕ → ℕ) → List Entry → Type 0
-EndsWithin w e l = (before xs rest : List Entry) (j : ℕ) (a : Answer) → l ≡ before ++ entry (release j) accepted ∷ (xs ++ entry tick a ∷ rest) → count isTick xs + 1 ≡ w j → Ended (e j) j (xs ++ entry tick a ∷ [])
+-- Wherever a release of task j with budget e was accepted in the log l and w ticks follow it, the job has ended by the w-th of them.
+abbrev pub EndsBy : (w e j : ℕ) → List Entry → Type 0
+EndsBy w e j l = (before xs rest : List Entry) (a : Answer) → l ≡ before ++ entry (release j) accepted ∷ (xs ++ entry tick a ∷ rest) → count isTick xs + 1 ≡ w → Ended e j (xs ++ entry tick a ∷ [])
 
--- and no call is refused as Late (19).
+-- The rule for a whole log, with w and e by task number: this holds of every task, and no call is refused as Late (19).
 pub record OnTime (w e : ℕ → ℕ) (l : List Entry) : Type 0 where
-  pub ends : EndsWithin w e l
+  pub ends : (j : ℕ) → EndsBy (w j) (e j) j l
   pub never-late : count (isRefused 19) l ≡ 0

@@ -6,7 +6,7 @@ use Rattle.plan.proofs.plan_jobs.Reads as reads
 use Rattle.plan.proofs.plan_jobs.Lts as lts
 use Rattle.io.proofs.write_all.Reads as write-all-reads
 use Rattle.os.proofs.fail.Reads as fail-reads
-use Rattle.plan.proofs.say_refused.Reads as say-refused-reads
+use Rattle.jobinput.proofs.say_refused.Reads as say-refused-reads
 use Rattle.planner.proofs.plan.Reads as plan-reads
 
 slice-aggregate-plan : tie.Need-slice-aggregate-plan
