@@ -104,7 +104,7 @@ typedef struct homvaits_listed {
 typedef struct homvaits_margined {
     uint8_t refusal;
     uint16_t place;
-    int32_t margin; /* ticks to spare, or below zero where a job may be late */
+    int32_t margin; /* ticks to spare, or below zero where a job of the list may be late */
 } homvaits_margined;
 
 /* Checks a sheet. Accepted: it is a sheet and every core fits; the answer has its counts.
@@ -192,8 +192,10 @@ homvaits_listed homvaits_list(const uint8_t *sheet, size_t len, uint8_t *out, si
  * t / period rounded up. The margin is the period minus the smallest t from 1 to the period whose demand is at most t; where there is no
  * such t, it is the period minus the demand at the period, which is below zero.
  *
- * The margin is zero or more for every task of the list exactly when no run from homvaits_start_list leaves a job pending once its period
- * has passed since its release, whatever is released, finished and ticked.
+ * Zero or more: in every run from homvaits_start_list each job of this task has ended `margin` ticks before its period is over, whatever
+ * the other margins are. The margin is zero or more for every task of the list exactly when no run from homvaits_start_list leaves a job
+ * pending once its period has passed since its release, whatever is released, finished and ticked. Below zero: some job of the list, not
+ * always one of this task, can be pending so.
  *
  * Refusals, in this order:
  *   5 LENGTH       place 0: `len` is no multiple of 4

@@ -19,7 +19,7 @@ use Rattle.fit.proofs.Lists.{each-halves}
 use Rattle.fit.proofs.Finds.{find-none, find-some}
 use Rattle.fit.proofs.Priority.{above-true}
 use Rattle.fit.proofs.Selecting.{above-test}
-use Rattle.margin.specs.Margin.{tasksAbove, request, demand, met, smallest, spare}
+use Rattle.margin.specs.Margin.{tasksAbove, request, demand, met, smallest, marginFrom}
 use Rattle.margin.proofs.Difference.{minus-cases, minus-positive, minus-negative, minus-falls}
 
 module _ (p : ℕ → ℕ) where
@@ -108,41 +108,41 @@ module _ (d : ℕ → ℕ) (p : ℕ) where
           inl (rw e (record { from = found-first (met d) 1 p t e .0; to = omega (arith, r .0); enough = leb-true (d t) t (r .1) }))
 
   -- a t that meets the demand bounds the margin from below
-  pub fits-margin : (t : ℕ) → Fits d p t → (pos p -ℤ pos t) ≤ℤ spare p (d p) (smallest d p)
-  unfolding smallest met spare
+  pub fits-margin : (t : ℕ) → Fits d p t → (pos p -ℤ pos t) ≤ℤ marginFrom p (d p) (smallest d p)
+  unfolding smallest met marginFrom
   fits-margin t f = by (smallest d p) refl
     where
-      by : (o : Option ℕ) → smallest d p ≡ o → (pos p -ℤ pos t) ≤ℤ spare p (d p) o
+      by : (o : Option ℕ) → smallest d p ≡ o → (pos p -ℤ pos t) ≤ℤ marginFrom p (d p) o
       by none e = absurd (omega (arith, f .enough, leb-false (d t) t (find-none (met d) 1 p e t (f .from) (omega (arith, f .to)))))
       by (some s) e =
           let least : t < s → ⊥ = λ lt. omega (arith, f .enough, leb-false (d t) t (found-first (met d) 1 p s e .1 t (f .from) lt)) in
           minus-falls p s t (omega (arith, least))
 
   -- it is zero or more exactly where there is such a t
-  pub fits-positive : (t : ℕ) → Fits d p t → pos 0 ≤ℤ spare p (d p) (smallest d p)
-  unfolding smallest met spare
+  pub fits-positive : (t : ℕ) → Fits d p t → pos 0 ≤ℤ marginFrom p (d p) (smallest d p)
+  unfolding smallest met marginFrom
   fits-positive t f = by (smallest d p) refl
     where
-      by : (o : Option ℕ) → smallest d p ≡ o → pos 0 ≤ℤ spare p (d p) o
+      by : (o : Option ℕ) → smallest d p ≡ o → pos 0 ≤ℤ marginFrom p (d p) o
       by none e = absurd (omega (arith, f .enough, leb-false (d t) t (find-none (met d) 1 p e t (f .from) (omega (arith, f .to)))))
       by (some s) e = minus-positive p s (omega (arith, find-some (met d) 1 p s e .0))
 
-  pub positive-fits : 1 ≤ p → pos 0 ≤ℤ spare p (d p) (smallest d p) → Fits d p (response d p)
-  unfolding response smallest met spare
+  pub positive-fits : 1 ≤ p → pos 0 ≤ℤ marginFrom p (d p) (smallest d p) → Fits d p (response d p)
+  unfolding response smallest met marginFrom
   positive-fits h m = ⊎-elim (λ f. f) (λ s. absurd (by (smallest d p) refl s m)) fits-or-short
     where
-      by : (o : Option ℕ) → smallest d p ≡ o → Short d p → pos 0 ≤ℤ spare p (d p) o → ⊥
+      by : (o : Option ℕ) → smallest d p ≡ o → Short d p → pos 0 ≤ℤ marginFrom p (d p) o → ⊥
       by none e s k = minus-negative p (d p) (s p h (omega arith)) k
       by (some t) e s k =
           let r = find-some (met d) 1 p t e in
           omega (arith, leb-true (d t) t (r .1), s t (found-first (met d) 1 p t e .0) (omega (arith, r .0)))
 
   -- then it is what that t leaves of p
-  pub spare-response : Fits d p (response d p) → spare p (d p) (smallest d p) ≡ pos (p - response d p)
-  unfolding response smallest met spare
-  spare-response f = by (smallest d p) refl
+  pub margin-response : Fits d p (response d p) → marginFrom p (d p) (smallest d p) ≡ pos (p - response d p)
+  unfolding response smallest met marginFrom
+  margin-response f = by (smallest d p) refl
     where
-      by : (o : Option ℕ) → smallest d p ≡ o → spare p (d p) (smallest d p) ≡ pos (p - response d p)
+      by : (o : Option ℕ) → smallest d p ≡ o → marginFrom p (d p) (smallest d p) ≡ pos (p - response d p)
       by none e =
           let q : response d p ≡ p = rw e in
           let r : Fits d p p = subst (Fits d p) q f in

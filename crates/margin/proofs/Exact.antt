@@ -37,10 +37,10 @@ use Rattle.dispatcher.specs.Starts.{freshTasks, stateOf, listAnswer, listState,
 use Rattle.dispatcher.proofs.Logs.{log-form}
 use Rattle.dispatcher.proofs.Starts.{state-tasks, state-places, state-form, list-fresh}
 use Rattle.dispatcher.proofs.Schedule.{level-room}
-use Rattle.margin.specs.Margin.{tasksAbove, request, demand, smallest, spare, margin}
+use Rattle.margin.specs.Margin.{tasksAbove, request, demand, smallest, marginFrom, margin}
 use Rattle.margin.specs.Answers.{ticks, refused, marginIn, answerFrom, marginAnswer}
 use Rattle.margin.specs.Exact.{NoneBelow, NonePending, benchLog, PendingAfter, Exact, AtLeast}
-use Rattle.margin.proofs.Demands.{demand-level, Fits, Short, response, fits-or-short, fits-margin, fits-positive, positive-fits, spare-response, response-short}
+use Rattle.margin.proofs.Demands.{demand-level, Fits, Short, response, fits-or-short, fits-margin, fits-positive, positive-fits, margin-response, response-short}
 use Rattle.margin.proofs.Enough.{level, level-window, EachFits, fits-on-time, fits-alone}
 use Rattle.margin.proofs.Releases.{rounds}
 use Rattle.margin.proofs.Needed.{afterRelease, whole, first, ticks-after, not-ended, fits-front, each-fits}
@@ -146,11 +146,11 @@ module _ (l : List ℕ) (clear : none ≡ scan (listRows 0 l)) where
   -- the sign of a margin
   fits-margin-in : (i : ℕ) → Fits (demand p e ord i) (p i) (w i) → pos 0 ≤ℤ marginIn l i
   unfolding margin
-  fits-margin-in i f = subst (λ d. pos 0 ≤ℤ spare (p i) (d (p i)) (smallest d (p i))) (sym (demand-order p e (jobCount l) i)) (fits-positive (demand p e ord i) (p i) (w i) f)
+  fits-margin-in i f = subst (λ d. pos 0 ≤ℤ marginFrom (p i) (d (p i)) (smallest d (p i))) (sym (demand-order p e (jobCount l) i)) (fits-positive (demand p e ord i) (p i) (w i) f)
 
   margin-in-fits : (i : ℕ) → i < jobCount l → pos 0 ≤ℤ marginIn l i → Fits (demand p e ord i) (p i) (w i)
   unfolding margin
-  margin-in-fits i lt m = positive-fits (demand p e ord i) (p i) (fine .period i lt .0) (subst (λ d. pos 0 ≤ℤ spare (p i) (d (p i)) (smallest d (p i))) (demand-order p e (jobCount l) i) m)
+  margin-in-fits i lt m = positive-fits (demand p e ord i) (p i) (fine .period i lt .0) (subst (λ d. pos 0 ≤ℤ marginFrom (p i) (d (p i)) (smallest d (p i))) (demand-order p e (jobCount l) i) m)
 
   -- a margin is answered for each task of the list, and for no other number
   answered : (j : ℕ) → j < jobCount l → marginAnswer l j ≡ ticks (marginIn l j)
@@ -176,7 +176,7 @@ module _ (l : List ℕ) (clear : none ≡ scan (listRows 0 l)) where
 
   left-over : (i : ℕ) → Fits (demand p e ord i) (p i) (w i) → marginIn l i ≡ pos (p i - w i)
   unfolding margin
-  left-over i f = ap (λ d. spare (p i) (d (p i)) (smallest d (p i))) (demand-order p e (jobCount l) i) ∙ spare-response (demand p e ord i) (p i) f
+  left-over i f = ap (λ d. marginFrom (p i) (d (p i)) (smallest d (p i))) (demand-order p e (jobCount l) i) ∙ margin-response (demand p e ord i) (p i) f
 
   -- enough
   rule : NoneBelow l → (v : ℕ → ℕ) → Each (λ i. w i ≤ v i) ord → (cs : List Call) → OnTime v e (benchLog l cs)

@@ -12,7 +12,7 @@ use lib.Seq.{take-suc-set, take-set-le}
 use Rattle.fit.specs.Lists.{numbers, select}
 use Rattle.fit.specs.Priority.{higher, above}
 use Rattle.fit.proofs.Lists.{numbers-last, front-count}
-use Rattle.margin.specs.declared.Rivals.{Rivals}
+use Rattle.margin.specs.declared.HigherTasks.{HigherTasks}
 use Rattle.margin.specs.Margin.{tasksAbove}
 use Rattle.margin.specs.Steps.{Gathered}
 
@@ -70,7 +70,7 @@ count-within count j next true h e = omega arith
 count-within count j next false h e = omega arith
 
 -- what is counted is all there is
-module _ (p e : ℕ → ℕ) (l : List ℕ) (r : Rivals) (g : Gathered p e l r) where
+module _ (p e : ℕ → ℕ) (l : List ℕ) (r : HigherTasks) (g : Gathered p e l r) where
   pub periods-count : r .count ≡ length (take (r .count) (r .periods))
   periods-count = front-count (r .periods) (r .count) (omega (arith, g .count, g .periods-size))
 

@@ -13,7 +13,7 @@ use lib.Seq.{drop-cons}
 use Rattle.fit.specs.Lists.{sum}
 use Rattle.fit.specs.Rounding.{ceiling}
 use Rattle.margin.specs.Margin.{request}
-use Rattle.margin.specs.Steps.{requests, demandBelow, Ranged, nobody, another}
+use Rattle.margin.specs.Steps.{requests, demandBelow, Ranged, no-tasks, one-more}
 use Rattle.margin.proofs.Rounds.{ceiling-mono}
 
 -- a budget times a quotient by a period that is no shorter is at most the number divided, so a request is at most t and a period
@@ -30,8 +30,8 @@ request-bound p e t h k m = omega (arith, share-small p e (t + p - 1) k)
 -- the requests grow with t
 requests-grow : (s t : ℕ) → s ≤ t → {ps es : List ℕ} → Ranged ps es → requests s ps es ≤ requests t ps es
 unfolding requests
-requests-grow s t h nobody = omega arith
-requests-grow s t h (another {p} {e} a b c r) = omega (arith, mul-le-mul-left e (ceiling-mono p a s t h), requests-grow s t h r)
+requests-grow s t h no-tasks = omega arith
+requests-grow s t h (one-more {p} {e} a b c r) = omega (arith, mul-le-mul-left e (ceiling-mono p a s t h), requests-grow s t h r)
 
 pub demand-grows : (ps es : List ℕ) (b s t : ℕ) → Ranged ps es → s ≤ t → demandBelow ps es b s ≤ demandBelow ps es b t
 unfolding demandBelow
@@ -39,13 +39,13 @@ demand-grows ps es b s t r h = omega (arith, requests-grow s t h r)
 
 -- tasks in range: as many budgets as periods, and the ranges at a place
 pub ranged-length : {ps es : List ℕ} → Ranged ps es → length es ≡ length ps
-ranged-length nobody = refl
-ranged-length (another a b c r) = ap suc (ranged-length r)
+ranged-length no-tasks = refl
+ranged-length (one-more a b c r) = ap suc (ranged-length r)
 
 ranged-at : {ps es : List ℕ} → Ranged ps es → (i : ℕ) → i < length ps → (1 ≤ getD ps i 0) × (getD ps i 0 ≤ 60000) × (getD es i 0 ≤ getD ps i 0)
-ranged-at nobody i h = absurd (omega arith)
-ranged-at (another a b c r) zero h = (a, b, c)
-ranged-at (another a b c r) (suc i) h = ranged-at r i (omega arith)
+ranged-at no-tasks i h = absurd (omega arith)
+ranged-at (one-more a b c r) zero h = (a, b, c)
+ranged-at (one-more a b c r) (suc i) h = ranged-at r i (omega arith)
 
 pub request-ranged : (ps es : List ℕ) (i t : ℕ) → Ranged ps es → i < length ps → t ≤ 60000 → (1 ≤ getD ps i 0) × (getD ps i 0 ≤ 60000) × (getD es i 0 ≤ getD ps i 0) × (t ≤ 60000)
 request-ranged ps es i t r h k =

@@ -20,11 +20,11 @@ use Rattle.fit.proofs.Lists.{each-select}
 use Rattle.jobs.specs.Jobs.{jobCount, jobPeriod, jobBudget, listRows, Listed}
 use Rattle.jobs.proofs.Laws.{listed}
 use Rattle.dispatcher.proofs.Starts.{list-few}
-use Rattle.margin.specs.declared.Rivals.{Rivals}
+use Rattle.margin.specs.declared.HigherTasks.{HigherTasks}
 use Rattle.margin.specs.declared.Slack.the-variants.{Ticks, Refused}
-use Rattle.margin.specs.Margin.{tasksAbove, demand, smallest, spare, margin}
+use Rattle.margin.specs.Margin.{tasksAbove, demand, smallest, marginFrom, margin}
 use Rattle.margin.specs.Answers.{outcomeOf, marginIn, answerFrom, marginAnswer}
-use Rattle.margin.specs.Steps.{demandBelow, marginBelow, Ranged, nobody, another, Gathered}
+use Rattle.margin.specs.Steps.{demandBelow, marginBelow, Ranged, no-tasks, one-more, Gathered}
 use Rattle.margin.proofs.Requests.{requests-sum}
 
 -- what holds for every number below n holds for each of them
@@ -39,8 +39,8 @@ InRange p e j = (1 ≤ p j) × (p j ≤ 60000) × (e j ≤ p j)
 
 ranged-map : (p e : ℕ → ℕ) (l : List ℕ) → Each (InRange p e) l → Ranged (map p l) (map e l)
 unfolding Each
-ranged-map p e [] h = nobody
-ranged-map p e (j ∷ l) h = another (h .0 .0) (h .0 .1) (h .0 .2) (ranged-map p e l (h .1))
+ranged-map p e [] h = no-tasks
+ranged-map p e (j ∷ l) h = one-more (h .0 .0) (h .0 .1) (h .0 .2) (ranged-map p e l (h .1))
 
 -- the demand and the margin below all tasks above i are those of the definition
 demand-is : (p e : ℕ → ℕ) (l : List ℕ) (i : ℕ) → demandBelow (map p (tasksAbove p l i)) (map e (tasksAbove p l i)) (e i) ≡ demand p e l i
@@ -49,23 +49,23 @@ demand-is p e l i = fun-ext (λ t. ap (λ (s : ℕ). e i + s) (requests-sum p e 
 
 margin-is : (p e : ℕ → ℕ) (l : List ℕ) (i : ℕ) → marginBelow (map p (tasksAbove p l i)) (map e (tasksAbove p l i)) (p i) (e i) ≡ margin p e l i
 unfolding marginBelow margin
-margin-is p e l i = ap (λ (d : ℕ → ℕ). spare (p i) (d (p i)) (smallest d (p i))) (demand-is p e l i)
+margin-is p e l i = ap (λ (d : ℕ → ℕ). marginFrom (p i) (d (p i)) (smallest d (p i))) (demand-is p e l i)
 
-module _ (l : List ℕ) (n i : ℕ) (ok : Listed 0 l) (all : n ≡ jobCount l) (r : Rivals) (g : Gathered (jobPeriod l) (jobBudget l) (tasksAbove (jobPeriod l) (numbers 0 n) i) r) where
-  pub rivals-ranged : Ranged (take (r .count) (r .periods)) (take (r .count) (r .budgets))
+module _ (l : List ℕ) (n i : ℕ) (ok : Listed 0 l) (all : n ≡ jobCount l) (r : HigherTasks) (g : Gathered (jobPeriod l) (jobBudget l) (tasksAbove (jobPeriod l) (numbers 0 n) i) r) where
+  pub above-ranged : Ranged (take (r .count) (r .periods)) (take (r .count) (r .budgets))
   unfolding tasksAbove
-  rivals-ranged = rw (g .periods, g .budgets) (ranged-map (jobPeriod l) (jobBudget l) _ (each-select _ _ (numbers 0 n) (each-number _ 0 n own)))
+  above-ranged = rw (g .periods, g .budgets) (ranged-map (jobPeriod l) (jobBudget l) _ (each-select _ _ (numbers 0 n) (each-number _ 0 n own)))
     where
       own : (j : ℕ) → j < 0 + n → InRange (jobPeriod l) (jobBudget l) j
       own j h =
           let q : j < jobCount l = omega arith in
           (ok .period j q .0, ok .period j q .1, ok .budget j q .1)
 
-  pub rivals-few : length (take (r .count) (r .periods)) ≤ 64
-  rivals-few = simp length-take (omega (arith, g .periods-size))
+  pub above-few : length (take (r .count) (r .periods)) ≤ 64
+  above-few = simp length-take (omega (arith, g .periods-size))
 
-  pub rivals-margin : (m : ℤ) (p e : ℕ) → p ≡ jobPeriod l i → e ≡ jobBudget l i → m ≡ marginBelow (take (r .count) (r .periods)) (take (r .count) (r .budgets)) p e → m ≡ marginIn l i
-  rivals-margin m p e a b q =
+  pub above-margin : (m : ℤ) (p e : ℕ) → p ≡ jobPeriod l i → e ≡ jobBudget l i → m ≡ marginBelow (take (r .count) (r .periods)) (take (r .count) (r .budgets)) p e → m ≡ marginIn l i
+  above-margin m p e a b q =
       q ∙ rw (a, b, g .periods, g .budgets, all) (margin-is (jobPeriod l) (jobBudget l) (numbers 0 (jobCount l)) i)
 
 -- the range of a listed task's period, and how many entries there are

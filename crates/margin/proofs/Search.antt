@@ -12,7 +12,7 @@ use lib.IntN.{ℤ, pos, _-ℤ_}
 use lib.Arith.{lt-of-le-ne}
 use Rattle.fit.specs.Lists.{numbers, find}
 use Rattle.fit.proofs.Finds.{none-find}
-use Rattle.margin.specs.Margin.{met, smallest, spare}
+use Rattle.margin.specs.Margin.{met, smallest, marginFrom}
 use Rattle.margin.specs.Steps.{demandBelow, marginBelow, Ranged}
 use Rattle.margin.proofs.Requests.{demand-grows}
 
@@ -47,13 +47,13 @@ module _ (ps es : List ℕ) (b t : ℕ) (u : Unmet ps es b t) where
       by s p q (no k) = lt-leb (demandBelow ps es b s) s (omega (arith, demand-grows ps es b t s ok (omega arith)))
 
   pub search-hit : (p r : ℕ) (m : ℤ) → t ≤ p → r ≡ demandBelow ps es b t → r ≤ t → m ≡ pos p -ℤ pos t → m ≡ marginBelow ps es p b
-  unfolding met smallest spare marginBelow
+  unfolding met smallest marginFrom marginBelow
   search-hit p r m h e k q =
       let z : find (met (demandBelow ps es b)) (numbers 1 p) ≡ some t = find-first (met (demandBelow ps es b)) 1 p t (u .from) (omega arith) (le-leb (demandBelow ps es b t) t (omega arith)) (u .none-below) in
       q ∙ rw z
 
   pub search-end : (p r : ℕ) (m : ℤ) → p < t → r ≡ demandBelow ps es b p → m ≡ pos p -ℤ pos r → m ≡ marginBelow ps es p b
-  unfolding smallest spare marginBelow
+  unfolding smallest marginFrom marginBelow
   search-end p r m h e q =
       let z : find (met (demandBelow ps es b)) (numbers 1 p) ≡ none = none-find (met (demandBelow ps es b)) 1 p (λ s a c. u .none-below s a (omega arith)) in
       q ∙ rw (z, e)

@@ -31,10 +31,10 @@ unfoldable pub smallest : (ℕ → ℕ) → ℕ → Option ℕ
 smallest d p = find (met d) (numbers 1 p)
 
 -- a signed number: the period p minus that t, or minus the demand at the period where there is none
-unfoldable pub spare : ℕ → ℕ → Option ℕ → ℤ
-spare p d none = pos p -ℤ pos d
-spare p d (some t) = pos p -ℤ pos t
+unfoldable pub marginFrom : ℕ → ℕ → Option ℕ → ℤ
+marginFrom p d none = pos p -ℤ pos d
+marginFrom p d (some t) = pos p -ℤ pos t
 
 -- the margin of task i among the tasks of a list
 unfoldable pub margin : (ℕ → ℕ) → (ℕ → ℕ) → List ℕ → ℕ → ℤ
-margin p e l i = spare (p i) (demand p e l i (p i)) (smallest (demand p e l i) (p i))
+margin p e l i = marginFrom (p i) (demand p e l i (p i)) (smallest (demand p e l i) (p i))

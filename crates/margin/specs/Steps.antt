@@ -5,8 +5,8 @@ use mathlib.Core.List.{List, [], _∷_, map}
 use lib.ListN.{length, take}
 use lib.IntN.{ℤ}
 use Rattle.fit.specs.Rounding.{ceiling}
-use Rattle.margin.specs.declared.Rivals.{Rivals}
-use Rattle.margin.specs.Margin.{smallest, spare}
+use Rattle.margin.specs.declared.HigherTasks.{HigherTasks}
+use Rattle.margin.specs.Margin.{smallest, marginFrom}
 
 -- what tasks with these periods and budgets ask for in t ticks
 unfoldable pub requests : ℕ → List ℕ → List ℕ → ℕ
@@ -19,15 +19,15 @@ unfoldable pub demandBelow : List ℕ → List ℕ → ℕ → ℕ → ℕ
 demandBelow ps es b t = b + requests t ps es
 
 unfoldable pub marginBelow : List ℕ → List ℕ → ℕ → ℕ → ℤ
-marginBelow ps es p b = spare p (demandBelow ps es b p) (smallest (demandBelow ps es b) p)
+marginBelow ps es p b = marginFrom p (demandBelow ps es b p) (smallest (demandBelow ps es b) p)
 
 -- periods and budgets in range, as many of one as of the other
 pub data Ranged : List ℕ → List ℕ → Type 0 where
-  nobody : Ranged [] []
-  another : {p e : ℕ} {ps es : List ℕ} → 1 ≤ p → p ≤ 60000 → e ≤ p → Ranged ps es → Ranged (p ∷ ps) (e ∷ es)
+  no-tasks : Ranged [] []
+  one-more : {p e : ℕ} {ps es : List ℕ} → 1 ≤ p → p ≤ 60000 → e ≤ p → Ranged ps es → Ranged (p ∷ ps) (e ∷ es)
 
 -- the periods and budgets of the tasks of a list, at the front of two arrays of 64 places
-pub record Gathered (p e : ℕ → ℕ) (l : List ℕ) (r : Rivals) : Type 0 where
+pub record Gathered (p e : ℕ → ℕ) (l : List ℕ) (r : HigherTasks) : Type 0 where
   pub count : r .count ≤ 64
   pub periods-size : length (r .periods) ≡ 64
   pub budgets-size : length (r .budgets) ≡ 64

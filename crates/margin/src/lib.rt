@@ -15,14 +15,14 @@ ghost use Rattle.margin.specs.Steps.{demandBelow, marginBelow, Ranged, G
 use sheet::Finding;
 use sheet::Refusal;
 
-// What `margin` answers: a number of ticks, below zero where the job may miss its period, or a refusal.
+// What `margin` answers: a number of ticks, below zero where no t up to the period meets the task's demand, or a refusal.
 pub enum Slack {
     Ticks(i32),
     Refused { word: Refusal, place: u16 },
 }
 
 // The periods and budgets of the tasks that have priority over one: the first `count` places.
-struct Rivals {
+struct HigherTasks {
     count: usize,
     periods: [u16; 64],
     budgets: [u16; 64],
@@ -94,7 +94,7 @@ fn counted(count: usize, one: bool) -> usize
 
 // The tasks of a job list of n entries that have priority over task i. Each is laid at the place past those found so far, which counts only
 // if it is above.
-fn rivals_of(list: &[u8], n: u8, i: u8) -> Rivals
+fn tasks_above(list: &[u8], n: u8, i: u8) -> HigherTasks
     requires { ⌜ n ≤ 64 ⌝ }
     ensures { λ r. ⌜ Gathered (jobPeriod (now (list .entry))) (jobBudget (now (list .entry))) (tasksAbove (jobPeriod (now (list .entry))) (numbers 0 n) i) r ⌝ }
 {
@@ -111,7 +111,7 @@ fn rivals_of(list: &[u8], n: u8, i: u8) -> Rivals
         count = next;
         j += 1;
     }
-    Rivals {
+    HigherTasks {
         count,
         periods,
         budgets,
@@ -123,10 +123,10 @@ fn margin_of(list: &[u8], n: u8, i: u8) -> i32
     requires { ⌜ Listed 0 (now list) × (n ≡ jobCount (now list)) × (i < n) ⌝ }
     ensures { λ r. ⌜ r ≡ marginIn (now (list .entry)) i ⌝ }
 {
-    let rivals = rivals_of(list, n, i);
-    let count = rivals.count;
-    let periods = rivals.periods;
-    let budgets = rivals.budgets;
+    let higher = tasks_above(list, n, i);
+    let count = higher.count;
+    let periods = higher.periods;
+    let budgets = higher.budgets;
     margin_below(
         &periods[..count],
         &budgets[..count],
@@ -135,7 +135,7 @@ fn margin_of(list: &[u8], n: u8, i: u8) -> i32
     )
 }
 
-// The margin of a task of a job list on the bench: 5, 4, 7, 8, then 17, else a number of ticks that is zero or more for every task exactly
+// The margin of a task of a job list on the bench: 5, 4, 7, 8, then 17, else a number of ticks. It is zero or more for every task exactly
 // when no run from the bench start leaves a job pending once its period has passed.
 pub fn margin(list: &[u8], number: u64) -> Slack
     ensures { λ r. ⌜ outcomeOf r ≡ marginAnswer (now (list .entry)) number ⌝ }

@@ -130,11 +130,12 @@ pub fn list<'a>(bytes: &[u8], out: &'a mut [u8; LISTING_MAX]) -> &'a str {
     core::str::from_utf8(text).unwrap_or_default()
 }
 
-/// The margin of a task of a job list on one core: how many ticks its jobs have to spare, below zero where one may be late. A job's place
-/// in the list is its task number.
+/// The margin of a task of a job list on one core: how many ticks its jobs have to spare. A job's place in the list is its task number.
 ///
-/// The margin is zero or more for every task of the list exactly when no run from [`Core::start_list`] leaves a job pending once its
-/// period has passed since its release, whatever is released, finished and ticked.
+/// Zero or more: in every run from [`Core::start_list`] each job of this task has ended so many ticks before its period is over, whatever
+/// the other margins are. The margin is zero or more for every task of the list exactly when no run from [`Core::start_list`] leaves a
+/// job pending once its period has passed since its release, whatever is released, finished and ticked. Below zero: some job of the list,
+/// not always one of this task, can be pending so.
 ///
 /// ```
 /// use homvaits::{margin, Job};

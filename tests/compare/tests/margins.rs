@@ -68,10 +68,11 @@ impl Moment {
     }
 }
 
-/// The most ticks, in any run from the bench start, that a job of each task
-/// takes from its release until it has had its budget, or none if some run
-/// leaves a job pending once its period has passed since its release.
-fn longest(bench: &Bench, jobs: &[Job]) -> Option<Vec<u16>> {
+/// For each task the most ticks, in any run from the bench start, that a job
+/// of it takes from its release until it has had its budget, or none if some
+/// run leaves a job of it pending once its period has passed since its release.
+/// With `stop` not all runs are gone through once there is one such task.
+fn longest(bench: &Bench, jobs: &[Job], stop: bool) -> Vec<Option<u16>> {
     let start = (bench.start_list)(&bytes(jobs));
     assert_eq!(start.refusal, 0);
     let mut since = [0; MOST];
@@ -82,7 +83,7 @@ fn longest(bench: &Bench, jobs: &[Job]) -> Option<Vec<u16>> {
         core: start.core,
         since,
     };
-    let mut longest = vec![0; jobs.len()];
+    let mut longest = vec![Some(0); jobs.len()];
     let mut seen = HashSet::from([fresh.key(jobs)]);
     let mut ahead = vec![fresh];
     while let Some(now) = ahead.pop() {
@@ -112,33 +113,43 @@ fn longest(bench: &Bench, jobs: &[Job]) -> Option<Vec<u16>> {
         for (i, &(period, _)) in jobs.iter().enumerate() {
             next.since[i] = (now.since[i] + 1).min(period);
             if next.left(i) > 0 && next.since[i] == period {
-                return None;
+                longest[i] = None;
             }
             if now.left(i) > 0 && next.left(i) == 0 {
-                longest[i] = longest[i].max(next.since[i]);
+                longest[i] = longest[i].map(|ticks: u16| ticks.max(next.since[i]));
             }
+        }
+        if stop && longest.contains(&None) {
+            return longest;
         }
         go(next);
     }
-    Some(longest)
+    longest
 }
 
-/// All margins are zero or more exactly when no run leaves a job pending once
-/// its period has passed. Then each margin is what the longest job of its task
-/// leaves of the period.
-fn told(bench: &Bench, jobs: &[Job]) -> Result<bool, String> {
+fn margins(bench: &Bench, jobs: &[Job]) -> Vec<i32> {
     let list = bytes(jobs);
     let margin = |number: usize| {
         let answer = (bench.margin)(&list, number as u64);
         assert_eq!((answer.refusal, answer.place), (0, 0));
         answer.margin
     };
-    let margins: Vec<i32> = (0..jobs.len()).map(margin).collect();
-    let to_spare = |longest: Vec<u16>| -> Vec<i32> {
-        let rest = |(job, ticks): (&Job, u16)| job.0 as i32 - ticks as i32;
-        jobs.iter().zip(longest).map(rest).collect()
-    };
-    let found = longest(bench, jobs).map(to_spare);
+    (0..jobs.len()).map(margin).collect()
+}
+
+/// What the longest job of a task leaves of its period.
+fn to_spare(job: &Job, longest: Option<u16>) -> Option<i32> {
+    longest.map(|ticks| job.0 as i32 - ticks as i32)
+}
+
+/// All margins are zero or more exactly when no run leaves a job pending once
+/// its period has passed. Then each margin is what the longest job of its task
+/// leaves of the period.
+fn told(bench: &Bench, jobs: &[Job]) -> Result<bool, String> {
+    let margins = margins(bench, jobs);
+    let found = longest(bench, jobs, true);
+    let rest = |(job, ticks)| to_spare(job, ticks);
+    let found: Option<Vec<i32>> = jobs.iter().zip(found).map(rest).collect();
     let on_time = margins.iter().all(|&margin| margin >= 0);
     if on_time != found.is_some() || found.as_ref().is_some_and(|found| *found != margins) {
         return Err(format!("{jobs:?}: margins {margins:?}, runs {found:?}"));
@@ -193,6 +204,47 @@ fn every_run_of_the_library() {
 #[test]
 fn every_run_of_the_reference() {
     every_run(&REFERENCE);
+}
+
+/// A margin of zero or more is kept in every run, whatever the others are. How
+/// many such margins there are on lists that do not fit.
+fn kept(bench: &Bench, lists: &[Vec<Job>]) -> u32 {
+    let mut kept = 0;
+    for jobs in lists {
+        let margins = margins(bench, jobs);
+        if margins.iter().all(|&margin| margin >= 0) {
+            continue;
+        }
+        let found = longest(bench, jobs, false);
+        for ((job, margin), ticks) in jobs.iter().zip(margins).zip(found) {
+            if margin >= 0 {
+                assert!(to_spare(job, ticks) >= Some(margin), "{jobs:?}");
+                kept += 1;
+            }
+        }
+    }
+    kept
+}
+
+#[test]
+fn a_margin_of_zero_or_more_is_kept_by_itself() {
+    assert_eq!(kept(&LIBRARY, &all_lists(2, 8)), 890);
+    assert_eq!(kept(&LIBRARY, &all_lists(3, 5)), 3970);
+}
+
+/// Task 1 can be late, and is then released later than the demand of task 2
+/// counts; so no run keeps task 2 from its one tick for 34.
+#[test]
+fn a_margin_below_zero_alone_tells_nothing() {
+    let jobs = [(5, 2), (7, 4), (34, 1)];
+    assert_eq!(margins(&LIBRARY, &jobs), [3, -1, -1]);
+    let found = longest(&LIBRARY, &jobs, false);
+    assert_eq!((found[0], found[1]), (Some(2), None));
+    assert!(found[2].is_some());
+    // task 2 of the same list with one tick more has margin 0
+    let jobs = [(5, 2), (7, 4), (35, 1)];
+    assert_eq!(margins(&LIBRARY, &jobs), [3, -1, 0]);
+    assert!(to_spare(&jobs[2], longest(&LIBRARY, &jobs, false)[2]) >= Some(0));
 }
 
 /// The reference with this done to its margins.

@@ -5,10 +5,10 @@ use Rattle.jobs.specs.Jobs.{jobPeriod, jobBudget}
 use Rattle.margin.specs.Margin.{tasksAbove}
 use Rattle.margin.specs.Steps.{Gathered}
 use Rattle.margin.proofs.Gather.{gather-start, gather-turn, gather-end, count-within}
-use Rattle.margin.proofs.rivals_of.Statement.{statement}
-use Rattle.margin.proofs.rivals_of.Tie as tie
-use Rattle.margin.proofs.rivals_of.Reads as reads
-use Rattle.margin.proofs.rivals_of.Lts as lts
+use Rattle.margin.proofs.tasks_above.Statement.{statement}
+use Rattle.margin.proofs.tasks_above.Tie as tie
+use Rattle.margin.proofs.tasks_above.Reads as reads
+use Rattle.margin.proofs.tasks_above.Lts as lts
 use Rattle.margin.proofs.counted.Reads as counted-reads
 use Rattle.margin.proofs.is_above.Reads as is-above-reads
 use Rattle.jobs.proofs.budget.Reads as budget-reads
@@ -62,8 +62,8 @@ loop-again c = (search needs, search (count-within, needs), search (gather-turn,
 returns : tie.Need-returns Inv-loop μ-loop
 returns c = search (gather-end, needs)
 
-pub rivals-of-spec : {M : Type 1} → statement M
-rivals-of-spec =
+pub tasks-above-spec : {M : Type 1} → statement M
+tasks-above-spec =
     tie.close
     (tie.spec
     Inv-loop
