@@ -104,7 +104,7 @@ typedef struct homvaits_listed {
 typedef struct homvaits_margined {
     uint8_t refusal;
     uint16_t place;
-    int32_t margin; /* ticks to spare, or below zero where a job of the list may be late */
+    int32_t margin; /* ticks to spare; below zero: some job of the list can be late */
 } homvaits_margined;
 
 /* Checks a sheet. Accepted: it is a sheet and every core fits; the answer has its counts.
@@ -144,7 +144,7 @@ homvaits_planned homvaits_plan(const uint8_t *jobs, size_t len, uint64_t limit, 
 homvaits_step homvaits_start(const uint8_t *sheet, size_t len, uint64_t core);
 
 /* Starts a core from a job list (as in homvaits_plan) without a sheet, for the bench: nothing promises that its jobs end on time.
- * homvaits_margin tells whether they do.
+ * homvaits_margin tells of each task how many ticks its jobs have to spare.
  *
  * Refusals, in this order:
  *   5 LENGTH    place 0: `len` is no multiple of 4
@@ -189,7 +189,7 @@ homvaits_listed homvaits_list(const uint8_t *sheet, size_t len, uint8_t *out, si
 
 /* The margin of task number `task` of a job list (as in homvaits_plan) on one core: how many ticks its jobs have to spare. The demand at t
  * is the task's budget plus, for each task above it (a shorter period, or the same one and a lower number), that one's budget times
- * t / period rounded up. The margin is the period minus the smallest t from 1 to the period whose demand is at most t; where there is no
+ * (t / its period, rounded up). The margin is the period minus the smallest t from 1 to the period whose demand is at most t; where there is no
  * such t, it is the period minus the demand at the period, which is below zero.
  *
  * Zero or more: in every run from homvaits_start_list each job of this task has ended `margin` ticks before its period is over, whatever

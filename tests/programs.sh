@@ -182,7 +182,7 @@ try 'plan of an input that breaks off' 0 '' 'standard input: Input/output error\
 try 'plan to a full device' 0 '' 'standard output: No space left on device\n' sh -c "$plan > /dev/full" < examples/full-core.jobs
 
 # margins: a period minus the smallest t from 1 on, up to the period, at which the demand is at most t, or else minus the demand at the
-# period. Each task's demand at t is its own budget and, of each task above it, the budget times t / period rounded up.
+# period. Each task's demand at t is its own budget and, of each task above it, the budget times (t / period rounded up).
 rt check margins > "$room/log" 2>&1 || { cat "$room/log"; exit 1; }
 margins=target/bin/margins
 # Task 1: 4 + 2 * 2 at 7. Task 2: 1 + 7 * 2 + 5 * 4 at 35.

@@ -1,5 +1,5 @@
--- From the figures of a core that the checker accepts to the on-time rule: the fresh tasks are in form, and each level's demand in w ticks
--- fits in w ticks.
+-- Fresh tasks in form are on time where what each level asks for in w ticks fits in w ticks; and that is so of a core that the checker
+-- accepts, by its figures.
 -- Assumes nothing.
 use Prim.Native.Nat.{ℕ, zero, suc, _+_, _*_, _-_, _/_, _≤_, _<_}
 use mathlib.Core.Path.{_≡_, refl, sym, ap, subst, _∙_}
@@ -114,7 +114,7 @@ module _ (p e w : ℕ → ℕ) (l : List ℕ) (form : Form (freshTasks p e l)) (
           rw (nth-fresh p e l k lt′) (each-at (λ i. (1 ≤ w i) × (w i ≤ p i)) 0 l k lt′ bounds .1)
 
   -- so every log obeys the on-time rule, and with every later bound too
-  pub fresh-on-time : (cs : List Call) → OnTime w e (log answer next (freshTasks p e l) cs)
+  fresh-on-time : (cs : List Call) → OnTime w e (log answer next (freshTasks p e l) cs)
   fresh-on-time cs = on-time (λ k. 0) w e (freshTasks p e l) form (all-fresh p e l) fresh-demand (fresh-budgets p e l) cs
 
   pub fresh-later : (v : ℕ → ℕ) → Each (λ i. w i ≤ v i) l → (cs : List Call) → OnTime v e (log answer next (freshTasks p e l) cs)
@@ -162,10 +162,10 @@ module _ (p e M : ℕ → ℕ) (Q D : ℕ) (l : List ℕ) (h : Schedulable p e M
       let room = room-of-load 0 Q D (M i) (λ t. M i / M (t .number)) (freshTasks p e level) (omega (arith, h .divisor)) (each-fresh p e _ level many) (omega (arith, load-fresh p e M D (M i) level, h .level xs i ys s)) in
       omega (arith, room)
 
-  -- so every log of the fresh tasks obeys the on-time rule
   bounded : Each (λ i. (1 ≤ bound i) × (bound i ≤ p i)) l
   bounded = each-both l (λ i x y. (omega arith, x .1)) (h .bounds) (h .budget)
 
+  -- so every log of the fresh tasks obeys the on-time rule
   pub schedule-on-time : (cs : List Call) → OnTime bound e (log answer next (freshTasks p e l) cs)
   schedule-on-time cs = fresh-on-time p e bound l schedule-form bounded level-room cs
 

@@ -96,6 +96,36 @@ find-some q a (suc n) i e = by (q a) refl (find-some q (suc a) n i)
         let w = rec (rw t at e) in
         (omega (arith, w .0), w .1)
 
+-- what is found from a up is not below a, and nothing before it passes
+pub found-first : (q : ℕ → Bool) (a n i : ℕ) → find q (numbers a n) ≡ some i → (a ≤ i) × ((y : ℕ) → a ≤ y → y < i → q y ≡ false)
+unfolding find numbers
+found-first q a zero i e = absurd (Option·none-ne-some i e)
+found-first q a (suc n) i e = by (q a) refl e (found-first q (suc a) n i)
+  where
+    by : (b : Bool) → q a ≡ b → cond b (some a) (find q (numbers (suc a) n)) ≡ some i → (find q (numbers (suc a) n) ≡ some i → (suc a ≤ i) × ((y : ℕ) → suc a ≤ y → y < i → q y ≡ false)) → (a ≤ i) × ((y : ℕ) → a ≤ y → y < i → q y ≡ false)
+    by true t f rec =
+        let z : a ≡ i = Option·some-injective a i f in
+        (omega arith, λ y b c. absurd (omega arith))
+    by false t f rec =
+        let r = rec f in
+        (omega (arith, r .0), λ y b c. at y (ℕ-discrete y a) b c (r .1))
+      where
+        at : (y : ℕ) → Dec (y ≡ a) → a ≤ y → y < i → ((y : ℕ) → suc a ≤ y → y < i → q y ≡ false) → q y ≡ false
+        at y (yes z) b c r = rw z t
+        at y (no z) b c r = r y (lt-of-le-ne b (λ w. z (sym w))) c
+
+-- the first number that passes is found
+pub find-first : (q : ℕ → Bool) (a n i : ℕ) → a ≤ i → i < a + n → q i ≡ true → ((s : ℕ) → a ≤ s → s < i → q s ≡ false) → find q (numbers a n) ≡ some i
+unfolding find numbers
+find-first q a zero i h k e f = absurd (omega arith)
+find-first q a (suc n) i h k e f = by (ℕ-discrete a i) (find-first q (suc a) n i)
+  where
+    by : Dec (a ≡ i) → (suc a ≤ i → i < suc a + n → q i ≡ true → ((s : ℕ) → suc a ≤ s → s < i → q s ≡ false) → find q (numbers (suc a) n) ≡ some i) → find q (numbers a (suc n)) ≡ some i
+    by (yes z) rec = rw (z, e)
+    by (no z) rec =
+        let less : a < i = lt-of-le-ne h z in
+        rw (f a (omega arith) less) (rec (omega arith) (omega arith) e (λ s b c. f s (omega arith) c))
+
 -- the search for the place of the first that passes: the first i do not
 pub record Searched {A : Type 0} (q : A → Bool) (i : ℕ) (l : List A) : Type 0 where
   pub place : placeOf q l ≡ i + placeOf q (drop i l)

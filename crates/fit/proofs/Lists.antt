@@ -119,6 +119,16 @@ module _ {A : Type 0} (q : A → Bool) where
   select-all [] h = refl
   select-all (x ∷ l) h = rw (h .0) (ap (λ (t : List A). x ∷ t) (select-all l (h .1)))
 
+-- those of two lists that pass a test
+pub select-append : (q : ℕ → Bool) (l m : List ℕ) → select q (l ++ m) ≡ select q l ++ select q m
+unfolding select
+select-append q [] m = refl
+select-append q (x ∷ l) m = by (q x) (select-append q l m)
+  where
+    by : (b : Bool) → select q (l ++ m) ≡ select q l ++ select q m → cond b (x ∷ select q (l ++ m)) (select q (l ++ m)) ≡ cond b (x ∷ select q l) (select q l) ++ select q m
+    by true e = ap (λ (t : List ℕ). x ∷ t) e
+    by false e = e
+
 -- what follows for two from their own properties and from a relation, or from two relations, follows for each pair
 pub pairs-of : {A : Type 0} {P : A → Type 0} {R S : A → A → Type 0} (l : List A) → ((x y : A) → P x → P y → R x y → S x y) → Each P l → EachPair R l → EachPair S l
 unfolding Each EachPair

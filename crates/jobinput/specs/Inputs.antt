@@ -1,7 +1,11 @@
 -- What a caller may take as read.
 use Prim.Native.Nat.{ℕ}
+use mathlib.Core.Path.{_≡_}
 use mathlib.Core.List.{List}
+use lib.ListN.{take}
 use Rattle.io.specs.Counts.{Counts}
+use Rattle.jobtext.specs.declared.Read.the-variants as jobtext
+use Rattle.jobtext.specs.Text.{finish, roomIn, readOf, holding}
 use Rattle.jobinput.specs.declared.Given.{Given}
 use Rattle.jobinput.specs.declared.Given.the-variants.{Jobs, Nothing}
 
@@ -9,3 +13,8 @@ use Rattle.jobinput.specs.declared.Given.the-variants.{Jobs, Nothing}
 abbrev pub Inside : Given → List ℕ → List ℕ → Type 0
 Inside (Jobs t n) text jobs = Counts t text × Counts n jobs
 Inside Nothing text jobs = Unit {0}
+
+-- the jobs are those of the text, read with the room of the jobs' buffer, which held `before`
+abbrev pub Taken : Given → (text before jobs : List ℕ) → Type 0
+Taken (Jobs t n) text before jobs = (jobtext.Jobs n ≡ readOf (roomIn before) (finish (roomIn before) (take t text))) × (jobs ≡ holding (finish (roomIn before) (take t text)) before)
+Taken Nothing text before jobs = Unit {0}

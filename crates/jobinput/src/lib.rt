@@ -1,7 +1,7 @@
 // A job list as text on standard input, and what is said on standard error where it is wrong.
 ghost use mathlib.Core.Path.{_≡_};
 ghost use lib.ListN.{length};
-ghost use Rattle.jobinput.specs.Inputs.{Inside};
+ghost use Rattle.jobinput.specs.Inputs.{Inside, Taken};
 use input::Input;
 use jobtext::Fault;
 use jobtext::Read;
@@ -43,7 +43,7 @@ fn is_of_job(word: Refusal) -> bool {
     }
 }
 
-// Why a list is refused that is empty or not. The text has at most 64 jobs, so the word Count is of the core limit.
+// The reason of a refusal, of a list that is empty or not. The text has at most 64 jobs, so the word Count is of the core limit.
 fn say_reason(word: Refusal, empty: bool) {
     match word {
         Refusal::Count => say(b": the core limit is above 8"),
@@ -78,6 +78,7 @@ pub fn say_refused(word: Refusal, place: u16, text: &[u8], empty: bool) {
 // The jobs of a text, or what is wrong with it.
 fn read_text(text: &[u8], jobs: &mut [u8]) -> Given
     ensures { λ r. ⌜ Inside r (now (text .entry)) (now (jobs .exit)) × (length (now (jobs .exit)) ≡ length (now (jobs .entry))) ⌝ }
+    ensures { λ r. ⌜ Taken r (now (text .entry)) (now (jobs .entry)) (now (jobs .exit)) ⌝ }
 {
     let read = jobtext::read_jobs(text, jobs);
     match read {
@@ -96,6 +97,7 @@ fn read_text(text: &[u8], jobs: &mut [u8]) -> Given
 // bytes for it, and 256 for the jobs.
 pub fn read_list(text: &mut [u8], jobs: &mut [u8]) -> Given
     ensures { λ r. ⌜ Inside r (now (text .exit)) (now (jobs .exit)) ⌝ }
+    ensures { λ r. ⌜ Taken r (now (text .exit)) (now (jobs .entry)) (now (jobs .exit)) ⌝ }
     ensures { λ _. ⌜ (length (now (text .exit)) ≡ length (now (text .entry))) × (length (now (jobs .exit)) ≡ length (now (jobs .entry))) ⌝ }
 {
     let got = input::read_input(text);

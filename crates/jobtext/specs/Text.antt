@@ -1,4 +1,4 @@
--- The text form of a job list, for the program `plan`. A line has a period and a budget as decimal numbers, or neither. Spaces, tabs and
+-- The text form of a job list, for the programs `plan` and `margins`. A line has a period and a budget as decimal numbers, or neither. Spaces, tabs and
 -- carriage returns stand between and around the numbers, and '#' starts a comment to the end of the line. A line feed ends a line, and so
 -- does the end of the text. A line with two numbers is a job. The job is wrong if there is no room for it or one of its numbers is above
 -- 65,535; a line is wrong if it has one number, more than two, or another character.

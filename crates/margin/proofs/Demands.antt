@@ -1,22 +1,20 @@
 -- The demand of a task in a list in priority order is that of its level; what the smallest t says of the demand, and what the sign of the
 -- margin says.
 -- Assumes nothing.
-use Prim.Native.Nat.{ℕ, zero, suc, _+_, _-_, _≤_, _<_}
-use mathlib.Core.Path.{_≡_, refl, sym, ap, subst, _∙_}
-use mathlib.Core.Bool.{Bool, true, false, cond}
+use Prim.Native.Nat.{ℕ, _+_, _-_, _≤_, _<_}
+use mathlib.Core.Path.{_≡_, refl, ap, subst, _∙_}
+use mathlib.Core.Bool.{Bool, true, false}
 use mathlib.Core.Logic.{_⊎_, inl, inr, ⊎-elim}
-use mathlib.Core.Option.{Option, none, some, Option·none-ne-some, Option·some-injective}
+use mathlib.Core.Option.{Option, none, some}
 use mathlib.Core.List.{List, [], _∷_, _++_}
-use native.Mathlib.Decide.{ℕ-discrete}
 use native.Mathlib.Omega.{arith}
 use borrow.Author.Tests.{leb-true, leb-false, le-ltb}
-use lib.Arith.{lt-of-le-ne}
 use lib.IntN.{pos, _-ℤ_}
 use lib.Signed.{_≤ℤ_}
-use Rattle.fit.specs.Lists.{numbers, find, sum, select, Each, EachPair}
+use Rattle.fit.specs.Lists.{sum, select, Each, EachPair}
 use Rattle.fit.specs.Priority.{above, Above}
 use Rattle.fit.proofs.Lists.{each-halves}
-use Rattle.fit.proofs.Finds.{find-none, find-some}
+use Rattle.fit.proofs.Finds.{find-none, find-some, found-first}
 use Rattle.fit.proofs.Priority.{above-true}
 use Rattle.fit.proofs.Selecting.{above-test}
 use Rattle.margin.specs.Margin.{tasksAbove, request, demand, met, smallest, marginFrom}
@@ -49,7 +47,7 @@ module _ (p : ℕ → ℕ) where
   none-above i (j ∷ l) h = rw (not-above i j (below-other i j (h .0))) (none-above i l (h .1))
 
   -- in priority order the tasks above one are those before it
-  pub above-part : (xs : List ℕ) (i : ℕ) (ys : List ℕ) → EachPair (Above p) (xs ++ i ∷ ys) → tasksAbove p (xs ++ i ∷ ys) i ≡ xs
+  above-part : (xs : List ℕ) (i : ℕ) (ys : List ℕ) → EachPair (Above p) (xs ++ i ∷ ys) → tasksAbove p (xs ++ i ∷ ys) i ≡ xs
   unfolding tasksAbove select Each EachPair
   above-part [] i ys h = rw (not-above i i (below-itself i)) (none-above i ys (h .0))
   above-part (x ∷ xs) i ys h = rw (above-test p x i (each-halves (Above p x) xs (i ∷ ys) (h .0) .1 .0)) (ap (λ (t : List ℕ). x ∷ t) (above-part xs i ys (h .1)))
@@ -59,26 +57,8 @@ module _ (p : ℕ → ℕ) where
   unfolding demand
   demand-level e l xs i ys t h s = ap (λ a. e i + sum (request p e t) a) (ap (λ x. tasksAbove p x i) s ∙ above-part xs i ys (subst (EachPair (Above p)) s h))
 
--- what is found from a up is not below a, and nothing before it passes
-found-first : (q : ℕ → Bool) (a n i : ℕ) → find q (numbers a n) ≡ some i → (a ≤ i) × ((y : ℕ) → a ≤ y → y < i → q y ≡ false)
-unfolding find numbers
-found-first q a zero i e = absurd (Option·none-ne-some i e)
-found-first q a (suc n) i e = by (q a) refl e (found-first q (suc a) n i)
-  where
-    by : (b : Bool) → q a ≡ b → cond b (some a) (find q (numbers (suc a) n)) ≡ some i → (find q (numbers (suc a) n) ≡ some i → (suc a ≤ i) × ((y : ℕ) → suc a ≤ y → y < i → q y ≡ false)) → (a ≤ i) × ((y : ℕ) → a ≤ y → y < i → q y ≡ false)
-    by true t f rec =
-        let z : a ≡ i = Option·some-injective a i f in
-        (omega arith, λ y b c. absurd (omega arith))
-    by false t f rec =
-        let r = rec f in
-        (omega (arith, r .0), λ y b c. at y (ℕ-discrete y a) b c (r .1))
-      where
-        at : (y : ℕ) → Dec (y ≡ a) → a ≤ y → y < i → ((y : ℕ) → suc a ≤ y → y < i → q y ≡ false) → q y ≡ false
-        at y (yes z) b c r = rw z t
-        at y (no z) b c r = r y (lt-of-le-ne b (λ w. z (sym w))) c
-
 -- t lies from 1 to p, and the demand d at t is at most t
-pub record Fits (d : ℕ → ℕ) (p t : ℕ) : Type 0 where
+pub record Meets (d : ℕ → ℕ) (p t : ℕ) : Type 0 where
   pub from : 1 ≤ t
   pub to : t ≤ p
   pub enough : d t ≤ t
@@ -97,39 +77,40 @@ response d p = from (smallest d p)
 
 module _ (d : ℕ → ℕ) (p : ℕ) where
   -- one or the other holds
-  pub fits-or-short : Fits d p (response d p) ⊎ Short d p
+  pub meets-or-short : Meets d p (response d p) ⊎ Short d p
   unfolding response smallest met
-  fits-or-short = by (smallest d p) refl
+  meets-or-short = by (smallest d p) refl
     where
-      by : (o : Option ℕ) → smallest d p ≡ o → Fits d p (response d p) ⊎ Short d p
+      by : (o : Option ℕ) → smallest d p ≡ o → Meets d p (response d p) ⊎ Short d p
       by none e = inr (λ t a b. leb-false (d t) t (find-none (met d) 1 p e t a (omega arith)))
       by (some t) e =
           let r = find-some (met d) 1 p t e in
           inl (rw e (record { from = found-first (met d) 1 p t e .0; to = omega (arith, r .0); enough = leb-true (d t) t (r .1) }))
 
-  -- a t that meets the demand bounds the margin from below
-  pub fits-margin : (t : ℕ) → Fits d p t → (pos p -ℤ pos t) ≤ℤ marginFrom p (d p) (smallest d p)
-  unfolding smallest met marginFrom
-  fits-margin t f = by (smallest d p) refl
+  -- where some t meets the demand, the smallest is found, and is no larger
+  found : (t : ℕ) → Meets d p t → (s : ℕ) × (smallest d p ≡ some s) × (s ≤ t)
+  unfolding smallest met
+  found t f = by (smallest d p) refl
     where
-      by : (o : Option ℕ) → smallest d p ≡ o → (pos p -ℤ pos t) ≤ℤ marginFrom p (d p) o
+      by : (o : Option ℕ) → smallest d p ≡ o → (s : ℕ) × (smallest d p ≡ some s) × (s ≤ t)
       by none e = absurd (omega (arith, f .enough, leb-false (d t) t (find-none (met d) 1 p e t (f .from) (omega (arith, f .to)))))
       by (some s) e =
           let least : t < s → ⊥ = λ lt. omega (arith, f .enough, leb-false (d t) t (found-first (met d) 1 p s e .1 t (f .from) lt)) in
-          minus-falls p s t (omega (arith, least))
+          (s, e, omega (arith, least))
 
-  -- it is zero or more exactly where there is such a t
-  pub fits-positive : (t : ℕ) → Fits d p t → pos 0 ≤ℤ marginFrom p (d p) (smallest d p)
-  unfolding smallest met marginFrom
-  fits-positive t f = by (smallest d p) refl
-    where
-      by : (o : Option ℕ) → smallest d p ≡ o → pos 0 ≤ℤ marginFrom p (d p) o
-      by none e = absurd (omega (arith, f .enough, leb-false (d t) t (find-none (met d) 1 p e t (f .from) (omega (arith, f .to)))))
-      by (some s) e = minus-positive p s (omega (arith, find-some (met d) 1 p s e .0))
+  -- so it bounds the margin from below
+  pub meets-margin : (t : ℕ) → Meets d p t → (pos p -ℤ pos t) ≤ℤ marginFrom p (d p) (smallest d p)
+  unfolding marginFrom
+  meets-margin t f = let r = found t f in rw (r .1) (minus-falls p (r .0) t (r .2))
 
-  pub positive-fits : 1 ≤ p → pos 0 ≤ℤ marginFrom p (d p) (smallest d p) → Fits d p (response d p)
+  -- and the margin is zero or more exactly where there is such a t
+  pub meets-positive : (t : ℕ) → Meets d p t → pos 0 ≤ℤ marginFrom p (d p) (smallest d p)
+  unfolding marginFrom
+  meets-positive t f = let r = found t f in rw (r .1) (minus-positive p (r .0) (omega (arith, r .2, f .to)))
+
+  pub positive-meets : 1 ≤ p → pos 0 ≤ℤ marginFrom p (d p) (smallest d p) → Meets d p (response d p)
   unfolding response smallest met marginFrom
-  positive-fits h m = ⊎-elim (λ f. f) (λ s. absurd (by (smallest d p) refl s m)) fits-or-short
+  positive-meets h m = ⊎-elim (λ f. f) (λ s. absurd (by (smallest d p) refl s m)) meets-or-short
     where
       by : (o : Option ℕ) → smallest d p ≡ o → Short d p → pos 0 ≤ℤ marginFrom p (d p) o → ⊥
       by none e s k = minus-negative p (d p) (s p h (omega arith)) k
@@ -137,17 +118,12 @@ module _ (d : ℕ → ℕ) (p : ℕ) where
           let r = find-some (met d) 1 p t e in
           omega (arith, leb-true (d t) t (r .1), s t (found-first (met d) 1 p t e .0) (omega (arith, r .0)))
 
-  -- then it is what that t leaves of p
-  pub margin-response : Fits d p (response d p) → marginFrom p (d p) (smallest d p) ≡ pos (p - response d p)
-  unfolding response smallest met marginFrom
-  margin-response f = by (smallest d p) refl
-    where
-      by : (o : Option ℕ) → smallest d p ≡ o → marginFrom p (d p) (smallest d p) ≡ pos (p - response d p)
-      by none e =
-          let q : response d p ≡ p = rw e in
-          let r : Fits d p p = subst (Fits d p) q f in
-          absurd (omega (arith, r .enough, leb-false (d p) p (find-none (met d) 1 p e p (r .from) (omega arith))))
-      by (some t) e = rw e (minus-cases p t ∙ rw (le-ltb p t (omega (arith, find-some (met d) 1 p t e .0))))
+  -- then it is what the smallest leaves of p
+  pub margin-response : Meets d p (response d p) → marginFrom p (d p) (smallest d p) ≡ pos (p - response d p)
+  unfolding response marginFrom
+  margin-response f =
+      let r = found (response d p) f in
+      rw (r .1) (minus-cases p (r .0) ∙ rw (le-ltb p (r .0) (omega (arith, r .2, f .to))))
 
   -- no t before the smallest meets the demand
   pub response-short : (n : ℕ) → n < response d p → n ≤ p → Short d n

@@ -21,8 +21,8 @@ use Rattle.timing.proofs.Alone.{alone-on-time}
 use Rattle.dispatcher.specs.Starts.{freshTask, freshTasks}
 use Rattle.dispatcher.proofs.Schedule.{fresh-length, all-fresh, fresh-demand, fresh-later}
 use Rattle.margin.specs.Margin.{request}
-use Rattle.margin.proofs.Rounds.{ceiling-one, ceiling-window}
-use Rattle.margin.proofs.Demands.{Fits}
+use Rattle.margin.proofs.Ceilings.{ceiling-one, ceiling-window}
+use Rattle.margin.proofs.Demands.{Meets}
 
 module _ (p e : ℕ → ℕ) where
   -- what a task i below the tasks xs asks for in t ticks, with all of them
@@ -43,24 +43,24 @@ module _ (p e : ℕ → ℕ) where
       omega (arith, rate-fresh w (xs ++ i ∷ []) pos k, sum-append (request p e w) xs (i ∷ []), own)
 
 -- each task of the list meets the demand of its level at its w, which is within its period
-abbrev pub EachFits : (p e w : ℕ → ℕ) → List ℕ → Type 0
-EachFits p e w l = (xs : List ℕ) (i : ℕ) (ys : List ℕ) → l ≡ xs ++ i ∷ ys → Fits (level p e xs i) (p i) (w i)
+abbrev pub EachMeets : (p e w : ℕ → ℕ) → List ℕ → Type 0
+EachMeets p e w l = (xs : List ℕ) (i : ℕ) (ys : List ℕ) → l ≡ xs ++ i ∷ ys → Meets (level p e xs i) (p i) (w i)
 
-module _ (p e w : ℕ → ℕ) (l : List ℕ) (form : Form (freshTasks p e l)) (periods : Each (λ i. 1 ≤ p i) l) (fits : EachFits p e w l) where
+module _ (p e w : ℕ → ℕ) (l : List ℕ) (form : Form (freshTasks p e l)) (periods : Each (λ i. 1 ≤ p i) l) (meets : EachMeets p e w l) where
   bounds : Each (λ i. (1 ≤ w i) × (w i ≤ p i)) l
-  bounds = each-split _ l (λ xs i ys s. (fits xs i ys s .from, fits xs i ys s .to))
+  bounds = each-split _ l (λ xs i ys s. (meets xs i ys s .from, meets xs i ys s .to))
 
   room : (xs : List ℕ) (i : ℕ) (ys : List ℕ) → l ≡ xs ++ i ∷ ys → sumOf (rate (w i)) (freshTasks p e (xs ++ i ∷ [])) ≤ w i
   room xs i ys s =
-      let f = fits xs i ys s in
+      let f = meets xs i ys s in
       omega (arith, level-window p e (w i) l xs i ys (f .from) (f .to) periods s, f .enough)
 
   -- the demand test is passed, and every log obeys the on-time rule with w and with every later bound
-  pub fits-demand : Demand (λ k. 0) w (freshTasks p e l)
-  fits-demand = fresh-demand p e w l form bounds room
+  pub meets-demand : Demand (λ k. 0) w (freshTasks p e l)
+  meets-demand = fresh-demand p e w l form bounds room
 
-  pub fits-on-time : (v : ℕ → ℕ) → Each (λ i. w i ≤ v i) l → (cs : List Call) → OnTime v e (log answer next (freshTasks p e l) cs)
-  fits-on-time v h cs = fresh-later p e w l form bounds room v h cs
+  pub meets-on-time : (v : ℕ → ℕ) → Each (λ i. w i ≤ v i) l → (cs : List Call) → OnTime v e (log answer next (freshTasks p e l) cs)
+  meets-on-time v h cs = fresh-later p e w l form bounds room v h cs
 
 -- two parts of a list
 pub fresh-append : (p e : ℕ → ℕ) (xs ys : List ℕ) → freshTasks p e (xs ++ ys) ≡ freshTasks p e xs ++ freshTasks p e ys
@@ -69,9 +69,9 @@ fresh-append p e [] ys = refl
 fresh-append p e (x ∷ xs) ys = ap (λ t. freshTask (p x) (e x) x ∷ t) (fresh-append p e xs ys)
 
 -- Where one task meets the demand of its level at w, within its period, every log keeps its jobs within w, whatever the others do.
-pub fits-alone : (p e : ℕ → ℕ) (l xs : List ℕ) (i : ℕ) (ys : List ℕ) (w : ℕ) → Form (freshTasks p e l) → Each (λ j. 1 ≤ p j) l → l ≡ xs ++ i ∷ ys → Fits (level p e xs i) (p i) w → (cs : List Call) → EndsBy w (e i) i (log answer next (freshTasks p e l) cs)
+pub meets-alone : (p e : ℕ → ℕ) (l xs : List ℕ) (i : ℕ) (ys : List ℕ) (w : ℕ) → Form (freshTasks p e l) → Each (λ j. 1 ≤ p j) l → l ≡ xs ++ i ∷ ys → Meets (level p e xs i) (p i) w → (cs : List Call) → EndsBy w (e i) i (log answer next (freshTasks p e l) cs)
 unfolding freshTasks
-fits-alone p e l xs i ys w form periods s f cs = alone-on-time w (e i) i (length higher) (freshTasks p e l) form (all-fresh p e l) (omega (arith, fresh-length p e l, ap length s, fresh-length p e xs, length-append xs (i ∷ ys))) (ap (λ t. t .number) place) (ap (λ t. t .budget) place) (omega (arith, f .to, ap (λ t. t .period) place)) (rw front (omega (arith, level-window p e w l xs i ys (f .from) (f .to) periods s, f .enough))) cs
+meets-alone p e l xs i ys w form periods s f cs = alone-on-time w (e i) i (length higher) (freshTasks p e l) form (all-fresh p e l) (omega (arith, fresh-length p e l, ap length s, fresh-length p e xs, length-append xs (i ∷ ys))) (ap (λ t. t .number) place) (ap (λ t. t .budget) place) (omega (arith, f .to, ap (λ t. t .period) place)) (rw front (omega (arith, level-window p e w l xs i ys (f .from) (f .to) periods s, f .enough))) cs
   where
     higher : List Task
     higher = freshTasks p e xs

@@ -39,11 +39,11 @@ use Rattle.dispatcher.proofs.Starts.{state-tasks, state-places, state-form, lis
 use Rattle.dispatcher.proofs.Schedule.{level-room}
 use Rattle.margin.specs.Margin.{tasksAbove, request, demand, smallest, marginFrom, margin}
 use Rattle.margin.specs.Answers.{ticks, refused, marginIn, answerFrom, marginAnswer}
-use Rattle.margin.specs.Exact.{NoneBelow, NonePending, benchLog, PendingAfter, Exact, AtLeast}
-use Rattle.margin.proofs.Demands.{demand-level, Fits, Short, response, fits-or-short, fits-margin, fits-positive, positive-fits, margin-response, response-short}
-use Rattle.margin.proofs.Enough.{level, level-window, EachFits, fits-on-time, fits-alone}
+use Rattle.margin.specs.Exact.{NoneBelowZero, NonePending, benchLog, PendingAfter, Exact, MarginsAtLeast}
+use Rattle.margin.proofs.Demands.{demand-level, Meets, Short, response, meets-or-short, meets-margin, meets-positive, positive-meets, margin-response, response-short}
+use Rattle.margin.proofs.Enough.{level, level-window, EachMeets, meets-on-time, meets-alone}
 use Rattle.margin.proofs.Releases.{rounds}
-use Rattle.margin.proofs.Needed.{afterRelease, whole, first, ticks-after, not-ended, fits-front, each-fits}
+use Rattle.margin.proofs.Needed.{afterRelease, whole, first, ticks-after, not-ended, meets-front, each-meets}
 
 -- the smallest t of each task, or its period
 abbrev bound : (ℕ → ℕ) → (ℕ → ℕ) → List ℕ → ℕ → ℕ
@@ -56,14 +56,14 @@ module _ (p e : ℕ → ℕ) (l : List ℕ) (rising : EachPair (Above p) l) wher
   levels xs i ys s = fun-ext (λ t. demand-level p e l xs i ys t rising s)
 
   -- where each task fits at some w, its level does, and back
-  fits-levels : (w : ℕ → ℕ) → Each (λ i. Fits (demand p e l i) (p i) (w i)) l → EachFits p e w l
-  fits-levels w h xs i ys s = subst (λ d. Fits d (p i) (w i)) (levels xs i ys s) (each-between _ xs i ys s h)
+  meets-levels : (w : ℕ → ℕ) → Each (λ i. Meets (demand p e l i) (p i) (w i)) l → EachMeets p e w l
+  meets-levels w h xs i ys s = subst (λ d. Meets d (p i) (w i)) (levels xs i ys s) (each-between _ xs i ys s h)
 
-  level-fits : (w : ℕ → ℕ) → EachFits p e w l → Each (λ i. Fits (demand p e l i) (p i) (w i)) l
-  level-fits w h = each-split _ l (λ xs i ys s. subst (λ d. Fits d (p i) (w i)) (sym (levels xs i ys s)) (h xs i ys s))
+  level-meets : (w : ℕ → ℕ) → EachMeets p e w l → Each (λ i. Meets (demand p e l i) (p i) (w i)) l
+  level-meets w h = each-split _ l (λ xs i ys s. subst (λ d. Meets d (p i) (w i)) (sym (levels xs i ys s)) (h xs i ys s))
 
-  pick : (xs : List ℕ) (i : ℕ) (ys : List ℕ) → l ≡ xs ++ i ∷ ys → Fits (level p e xs i) (p i) (bound p e l i) ⊎ Short (level p e xs i) (p i)
-  pick xs i ys s = subst (λ d. Fits d (p i) (bound p e l i) ⊎ Short d (p i)) (levels xs i ys s) (fits-or-short (demand p e l i) (p i))
+  pick : (xs : List ℕ) (i : ℕ) (ys : List ℕ) → l ≡ xs ++ i ∷ ys → Meets (level p e xs i) (p i) (bound p e l i) ⊎ Short (level p e xs i) (p i)
+  pick xs i ys s = subst (λ d. Meets d (p i) (bound p e l i) ⊎ Short d (p i)) (levels xs i ys s) (meets-or-short (demand p e l i) (p i))
 
 -- the order in which the tasks are named does not matter
 demand-order : (p e : ℕ → ℕ) (n i : ℕ) → demand p e (numbers 0 n) i ≡ demand p e (orderBy Period p n) i
@@ -81,7 +81,7 @@ state-log ts form cs = log-form cs (stateOf ts) (state-places ts (form .count)) 
 
 -- a list that is refused: no margin is answered, and nothing is released
 refused-exact : (l : List ℕ) (r : Refused) → scan (listRows 0 l) ≡ some r → Exact l
-unfolding NoneBelow NonePending marginAnswer answerFrom listState freshTasks Each EachPair
+unfolding NoneBelowZero NonePending marginAnswer answerFrom listState freshTasks Each EachPair
 refused-exact l r x = record {
   enough = λ h cs j. rule (jobPeriod l) cs .ends j;
   needed = λ h j m a. absurd (none-answered j m a);
@@ -101,7 +101,7 @@ refused-exact l r x = record {
     split (y ∷ xs) i ys s = let z : _≡_ {A = ℕ} 0 1 = cc in omega arith
 
     rule : (v : ℕ → ℕ) (cs : List Call) → OnTime v (jobBudget l) (benchLog l cs)
-    rule v cs = subst (OnTime v (jobBudget l)) (sym (ap (λ o. log ask step (listState o l) cs) x ∙ state-log [] form cs)) (fits-on-time (jobPeriod l) (jobBudget l) (λ j. 0) [] form tt (λ xs i ys s. absurd (split xs i ys s)) v tt cs)
+    rule v cs = subst (OnTime v (jobBudget l)) (sym (ap (λ o. log ask step (listState o l) cs) x ∙ state-log [] form cs)) (meets-on-time (jobPeriod l) (jobBudget l) (λ j. 0) [] form tt (λ xs i ys s. absurd (split xs i ys s)) v tt cs)
 
 -- a list that breaks no rule: its tasks in priority order, and for each the smallest t, or its period
 module _ (l : List ℕ) (clear : none ≡ scan (listRows 0 l)) where
@@ -144,13 +144,13 @@ module _ (l : List ℕ) (clear : none ≡ scan (listRows 0 l)) where
   bench cs = ap (λ o. log ask step (listState o l) cs) (sym clear) ∙ state-log (freshTasks p e ord) form cs
 
   -- the sign of a margin
-  fits-margin-in : (i : ℕ) → Fits (demand p e ord i) (p i) (w i) → pos 0 ≤ℤ marginIn l i
+  meets-margin-in : (i : ℕ) → Meets (demand p e ord i) (p i) (w i) → pos 0 ≤ℤ marginIn l i
   unfolding margin
-  fits-margin-in i f = subst (λ d. pos 0 ≤ℤ marginFrom (p i) (d (p i)) (smallest d (p i))) (sym (demand-order p e (jobCount l) i)) (fits-positive (demand p e ord i) (p i) (w i) f)
+  meets-margin-in i f = subst (λ d. pos 0 ≤ℤ marginFrom (p i) (d (p i)) (smallest d (p i))) (sym (demand-order p e (jobCount l) i)) (meets-positive (demand p e ord i) (p i) (w i) f)
 
-  margin-in-fits : (i : ℕ) → i < jobCount l → pos 0 ≤ℤ marginIn l i → Fits (demand p e ord i) (p i) (w i)
+  margin-in-meets : (i : ℕ) → i < jobCount l → pos 0 ≤ℤ marginIn l i → Meets (demand p e ord i) (p i) (w i)
   unfolding margin
-  margin-in-fits i lt m = positive-fits (demand p e ord i) (p i) (fine .period i lt .0) (subst (λ d. pos 0 ≤ℤ marginFrom (p i) (d (p i)) (smallest d (p i))) (demand-order p e (jobCount l) i) m)
+  margin-in-meets i lt m = positive-meets (demand p e ord i) (p i) (fine .period i lt .0) (subst (λ d. pos 0 ≤ℤ marginFrom (p i) (d (p i)) (smallest d (p i))) (demand-order p e (jobCount l) i) m)
 
   -- a margin is answered for each task of the list, and for no other number
   answered : (j : ℕ) → j < jobCount l → marginAnswer l j ≡ ticks (marginIn l j)
@@ -166,57 +166,57 @@ module _ (l : List ℕ) (clear : none ≡ scan (listRows 0 l)) where
       by false x q = absurd (let z : _≡_ {A = ℕ} 0 1 = cc in omega arith)
 
   -- where every margin is zero or more, each task fits at its smallest t, which its margin leaves of its period
-  all-fit : NoneBelow l → Each (λ i. Fits (demand p e ord i) (p i) (w i)) ord
-  unfolding NoneBelow
-  all-fit h = each-of ord (λ i lt. margin-in-fits i lt (h i (marginIn l i) (answered i lt))) members
+  all-meet : NoneBelowZero l → Each (λ i. Meets (demand p e ord i) (p i) (w i)) ord
+  unfolding NoneBelowZero
+  all-meet h = each-of ord (λ i lt. margin-in-meets i lt (h i (marginIn l i) (answered i lt))) members
 
   in-order : (P : ℕ → Type 0) (j : ℕ) (m : ℤ) → marginAnswer l j ≡ ticks m → Each P ord → P j
   unfolding orderBy
   in-order P j m a h = each-occurs P j ord (order-holds p (λ i. 0) 0 (jobCount l) j (answers j m a .0) refl) h
 
-  left-over : (i : ℕ) → Fits (demand p e ord i) (p i) (w i) → marginIn l i ≡ pos (p i - w i)
+  left-over : (i : ℕ) → Meets (demand p e ord i) (p i) (w i) → marginIn l i ≡ pos (p i - w i)
   unfolding margin
   left-over i f = ap (λ d. marginFrom (p i) (d (p i)) (smallest d (p i))) (demand-order p e (jobCount l) i) ∙ margin-response (demand p e ord i) (p i) f
 
   -- enough
-  rule : NoneBelow l → (v : ℕ → ℕ) → Each (λ i. w i ≤ v i) ord → (cs : List Call) → OnTime v e (benchLog l cs)
-  rule h v later cs = subst (OnTime v e) (sym (bench cs)) (fits-on-time p e w ord form periods (fits-levels p e ord rising w (all-fit h)) v later cs)
+  rule : NoneBelowZero l → (v : ℕ → ℕ) → Each (λ i. w i ≤ v i) ord → (cs : List Call) → OnTime v e (benchLog l cs)
+  rule h v later cs = subst (OnTime v e) (sym (bench cs)) (meets-on-time p e w ord form periods (meets-levels p e ord rising w (all-meet h)) v later cs)
 
-  on-time : NoneBelow l → (cs : List Call) → OnTime p e (benchLog l cs)
-  on-time h cs = rule h p (each-of ord (λ i f. f .to) (all-fit h)) cs
+  on-time : NoneBelowZero l → (cs : List Call) → OnTime p e (benchLog l cs)
+  on-time h cs = rule h p (each-of ord (λ i f. f .to) (all-meet h)) cs
 
   -- one task alone
-  alone : (cs : List Call) → Each (λ i. Fits (demand p e ord i) (p i) (w i) → EndsBy (w i) (e i) i (benchLog l cs)) ord
-  alone cs = each-split _ ord (λ xs i ys s f. subst (EndsBy (w i) (e i) i) (sym (bench cs)) (fits-alone p e ord xs i ys (w i) form periods s (subst (λ d. Fits d (p i) (w i)) (levels p e ord rising xs i ys s) f) cs))
+  alone : (cs : List Call) → Each (λ i. Meets (demand p e ord i) (p i) (w i) → EndsBy (w i) (e i) i (benchLog l cs)) ord
+  alone cs = each-split _ ord (λ xs i ys s f. subst (EndsBy (w i) (e i) i) (sym (bench cs)) (meets-alone p e ord xs i ys (w i) form periods s (subst (λ d. Meets d (p i) (w i)) (levels p e ord rising xs i ys s) f) cs))
 
   ends : (j m t : ℕ) → marginAnswer l j ≡ ticks (pos m) → t + m ≡ p j → (cs : List Call) → EndsBy t (e j) j (benchLog l cs)
   ends j m t a n cs =
       let k = answers j (pos m) a in
-      let f = margin-in-fits j (k .0) (subst (λ z. pos 0 ≤ℤ z) (sym (k .1)) (record { le = le→leb 0 m (omega arith) })) in
+      let f = margin-in-meets j (k .0) (subst (λ z. pos 0 ≤ℤ z) (sym (k .1)) (record { le = le→leb 0 m (omega arith) })) in
       let same : pos (p j - w j) ≡ pos m = sym (left-over j f) ∙ k .1 in
       let q : p j - w j ≡ m = cc in
       let z : w j ≡ t = omega (arith, f .to) in
       subst (λ v. EndsBy v (e j) j (benchLog l cs)) z (in-order _ j (pos m) a (alone cs) f)
 
   -- needed
-  needed : NonePending l → NoneBelow l
-  unfolding NonePending NoneBelow
+  needed : NonePending l → NoneBelowZero l
+  unfolding NonePending NoneBelowZero
   needed h j m a =
-      let fits = each-fits p e w ord form periods budgets (λ cs i. subst (EndsBy (p i) (e i) i) (bench cs) (h cs i)) (pick p e ord rising) in
-      subst (λ z. pos 0 ≤ℤ z) (answers j m a .1) (fits-margin-in j (in-order _ j m a (level-fits p e ord rising w fits)))
+      let meets = each-meets p e w ord form periods budgets (λ cs i. subst (EndsBy (p i) (e i) i) (bench cs) (h cs i)) (pick p e ord rising) in
+      subst (λ z. pos 0 ≤ℤ z) (answers j m a .1) (meets-margin-in j (in-order _ j m a (level-meets p e ord rising w meets)))
 
   -- no sooner
-  worst : EachFits p e w ord → (t : ℕ) → Each (λ j. t < w j → PendingAfter l j t) ord
-  worst fits t = each-split _ ord at
+  worst : EachMeets p e w ord → (t : ℕ) → Each (λ j. t < w j → PendingAfter l j t) ord
+  worst meets t = each-split _ ord at
     where
       at : (xs : List ℕ) (i : ℕ) (ys : List ℕ) → ord ≡ xs ++ i ∷ ys → t < w i → PendingAfter l i t
       at xs i ys s lt =
-          let own = fits xs i ys s in
+          let own = meets xs i ys s in
           let short : Short (level p e xs i) t = subst (λ d. Short d t) (levels p e ord rising xs i ys s) (response-short (demand p e ord i) (p i) t lt (omega (arith, own .to))) in
           let form′ = subst (λ x. Form (freshTasks p e x)) s form in
           let periods′ = subst (Each (λ j. 1 ≤ p j)) s periods in
           let budget = each-between _ xs i ys s budgets in
-          let higher = fits-front p e w ord xs i ys s fits in
+          let higher = meets-front p e w ord xs i ys s meets in
           let first′ = first p e w xs i ys form′ periods′ budget higher t short in
           record {
             calls = release i ∷ rounds xs t;
@@ -227,11 +227,11 @@ module _ (l : List ℕ) (clear : none ≡ scan (listRows 0 l)) where
             pending = not-ended p e w xs i ys form′ periods′ budget higher t short;
           }
 
-  no-sooner : NoneBelow l → (j m t : ℕ) → marginAnswer l j ≡ ticks (pos m) → t + m < p j → PendingAfter l j t
+  no-sooner : NoneBelowZero l → (j m t : ℕ) → marginAnswer l j ≡ ticks (pos m) → t + m < p j → PendingAfter l j t
   no-sooner h j m t a lt =
-      let same : pos (p j - w j) ≡ pos m = sym (left-over j (in-order _ j (pos m) a (all-fit h))) ∙ answers j (pos m) a .1 in
+      let same : pos (p j - w j) ≡ pos m = sym (left-over j (in-order _ j (pos m) a (all-meet h))) ∙ answers j (pos m) a .1 in
       let q : p j - w j ≡ m = cc in
-      in-order _ j (pos m) a (worst (fits-levels p e ord rising w (all-fit h)) t) (omega (arith, in-order _ j (pos m) a (all-fit h) .to))
+      in-order _ j (pos m) a (worst (meets-levels p e ord rising w (all-meet h)) t) (omega (arith, in-order _ j (pos m) a (all-meet h) .to))
 
   clear-exact : Exact l
   unfolding NonePending
@@ -246,16 +246,16 @@ exact l = by (scan (listRows 0 l)) refl
     by (some r) x = refused-exact l r x
 
 -- a core that fits: each w meets the demand
-schedule-fits : (p e M : ℕ → ℕ) (Q D : ℕ) (l : List ℕ) → Schedulable p e M Q D l → EachFits p e (λ i. within Q D (M i)) l
-schedule-fits p e M Q D l h xs i ys s =
+schedule-meets : (p e M : ℕ → ℕ) (Q D : ℕ) (l : List ℕ) → Schedulable p e M Q D l → EachMeets p e (λ i. within Q D (M i)) l
+schedule-meets p e M Q D l h xs i ys s =
     let b = each-between _ xs i ys s (h .bounds) in
     let pos : 1 ≤ within Q D (M i) = omega (arith, b .0, each-between _ xs i ys s (h .budget) .0) in
     record { from = pos; to = b .1; enough = omega (arith, level-window p e (within Q D (M i)) l xs i ys pos (b .1) (each-of l (λ j x. x .0) (h .period)) s, level-room p e M Q D l h xs i ys s) }
 
 -- On each core of a sheet that the checker accepts each margin is at least p - w.
-pub sheet-margins : (s : List ℕ) (n c k : ℕ) → verdict s ≡ accepted n c → k < c → AtLeast s k
-unfolding AtLeast margin withinOn
+pub sheet-margins : (s : List ℕ) (n c k : ℕ) → verdict s ≡ accepted n c → k < c → MarginsAtLeast s k
+unfolding MarginsAtLeast margin withinOn
 sheet-margins s n c k v h =
     let f = figures s in
-    let fits = core-of s n c k v h .schedulable in
-    each-of _ (λ i x. fits-margin (demand (f .period) (f .budget) (orderOn f k) i) (f .period i) (withinOn f k i) x) (level-fits (f .period) (f .budget) (orderOn f k) (fits .order) (withinOn f k) (schedule-fits _ _ _ _ _ _ fits))
+    let meets = core-of s n c k v h .schedulable in
+    each-of _ (λ i x. meets-margin (demand (f .period) (f .budget) (orderOn f k) i) (f .period i) (withinOn f k i) x) (level-meets (f .period) (f .budget) (orderOn f k) (meets .order) (withinOn f k) (schedule-meets _ _ _ _ _ _ meets))

@@ -1,7 +1,7 @@
 -- The periods and budgets of the tasks above one, gathered step by step as the code goes.
 -- Assumes nothing.
 use Prim.Native.Nat.{ℕ, _+_, _≤_, _<_}
-use mathlib.Core.Path.{_≡_, refl, ap, _∙_}
+use mathlib.Core.Path.{_≡_, refl, _∙_}
 use mathlib.Core.Bool.{Bool, true, false, cond}
 use mathlib.Core.List.{List, [], _∷_, _++_, map, map-append, append-nil}
 use native.Mathlib.Nat.{zero-add}
@@ -11,20 +11,10 @@ use lib.ListN.{length, take, set, length-set}
 use lib.Seq.{take-suc-set, take-set-le}
 use Rattle.fit.specs.Lists.{numbers, select}
 use Rattle.fit.specs.Priority.{higher, above}
-use Rattle.fit.proofs.Lists.{numbers-last, front-count}
+use Rattle.fit.proofs.Lists.{numbers-last, front-count, select-append}
 use Rattle.margin.specs.declared.HigherTasks.{HigherTasks}
 use Rattle.margin.specs.Margin.{tasksAbove}
 use Rattle.margin.specs.Steps.{Gathered}
-
--- those of two lists that pass a test
-select-append : (q : ℕ → Bool) (l m : List ℕ) → select q (l ++ m) ≡ select q l ++ select q m
-unfolding select
-select-append q [] m = refl
-select-append q (x ∷ l) m = by (q x) (select-append q l m)
-  where
-    by : (b : Bool) → select q (l ++ m) ≡ select q l ++ select q m → cond b (x ∷ select q (l ++ m)) (select q (l ++ m)) ≡ cond b (x ∷ select q l) (select q l) ++ select q m
-    by true e = ap (λ (t : List ℕ). x ∷ t) e
-    by false e = e
 
 -- the tasks above i among one number more
 above-next : (p : ℕ → ℕ) (i j : ℕ) → tasksAbove p (numbers 0 (j + 1)) i ≡ tasksAbove p (numbers 0 j) i ++ cond (above p j i) (j ∷ []) []

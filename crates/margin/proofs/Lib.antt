@@ -1,4 +1,4 @@
-pub mod Rounds
+pub mod Ceilings
 pub mod Difference
 pub mod Signs
 pub mod Requests

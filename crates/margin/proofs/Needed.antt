@@ -8,20 +8,21 @@ use mathlib.Core.List.{List, [], _∷_, _++_, append-assoc}
 use native.Mathlib.Nat.{mul-zero}
 use native.Mathlib.Omega.{arith}
 use lib.Dec.{eqb}
-use lib.ListN.{length, take, length-append, length-take}
+use lib.ListN.{length, take, length-append}
 use lib.Seq.{append-snoc, take-at, take-append-seam, getD-at, getD-take}
 use borrow.Author.Tests.{le-ltb, ne-eqb}
 use Rattle.fit.specs.Lists.{sum, Each, EachPair}
-use Rattle.fit.proofs.Lists.{each-of, each-at, each-all, each-take, each-between, each-halves, pairs-before, pairs-take}
+use Rattle.fit.proofs.Lists.{each-of, each-at, each-all, each-between, each-halves, pairs-before}
 use Rattle.timing.specs.declared.Task.{Task}
 use Rattle.timing.specs.Tasks.{early, pending, withJob}
 use Rattle.timing.specs.Calls.{Call, release, tick, Answer, accepted, releaseAnswer, answer, next, Entry, entry, log, run}
-use Rattle.timing.specs.Form.{Sound, Distinct, Above, Form, Fresh}
+use Rattle.timing.specs.Form.{Distinct, Form, Fresh}
 use Rattle.timing.specs.OnTime.{count, toTick, isTick, Ended, EndsBy}
 use Rattle.timing.specs.Serving.{nth, noTask, toRelease, isRelease}
 use Rattle.timing.proofs.Rate.{sumOf}
 use Rattle.timing.proofs.Runs.{count-cut, tick-entry, run-kept}
 use Rattle.timing.proofs.Steps.{release-started, bare, bare-nth, length-next}
+use Rattle.timing.proofs.Form.{form-take}
 use Rattle.timing.proofs.Own.{own-answer}
 use Rattle.timing.proofs.Left.{pending-ended}
 use Rattle.timing.proofs.Later.{ended-append}
@@ -30,9 +31,9 @@ use Rattle.timing.proofs.OnTime.{good-idle}
 use Rattle.dispatcher.specs.Starts.{freshTask, freshTasks}
 use Rattle.dispatcher.proofs.Schedule.{all-fresh, fresh-each, fresh-budgets}
 use Rattle.margin.specs.Margin.{request}
-use Rattle.margin.proofs.Rounds.{ceiling-zero}
-use Rattle.margin.proofs.Demands.{Fits, Short}
-use Rattle.margin.proofs.Enough.{level, EachFits, fits-demand, fresh-append}
+use Rattle.margin.proofs.Ceilings.{ceiling-zero}
+use Rattle.margin.proofs.Demands.{Meets, Short}
+use Rattle.margin.proofs.Enough.{level, EachMeets, meets-demand, fresh-append}
 use Rattle.margin.proofs.Releases.{rounds, numbersOf, take-run, release-at, count-rounds}
 use Rattle.margin.proofs.Worst.{asked, Timed, Held, rounds-held}
 
@@ -68,7 +69,7 @@ module _ (p e : ℕ → ℕ) (s : List Task) (i : ℕ) (cs : List Call) (first :
       each-at _ noTask s′ k (omega arith) (pending-ended s form fresh (release i ∷ cs) [] after i whole none) (ap (λ t. t .number) same ∙ number) .1 (subst (λ b. Ended b i after) (sym (ap (λ t. t .budget) same ∙ budget)) d)
 
 -- the fresh tasks xs above a task i that has just been released, before the first round
-module _ (p e w : ℕ → ℕ) (xs : List ℕ) (i : ℕ) (form : Form (freshTasks p e xs)) (periods : Each (λ j. 1 ≤ p j) xs) (fits : EachFits p e w xs) where
+module _ (p e w : ℕ → ℕ) (xs : List ℕ) (i : ℕ) (form : Form (freshTasks p e xs)) (periods : Each (λ j. 1 ≤ p j) xs) (meets : EachMeets p e w xs) where
   numbers-fresh : (l : List ℕ) → numbersOf (freshTasks p e l) ≡ l
   unfolding freshTasks
   numbers-fresh [] = refl
@@ -100,21 +101,12 @@ module _ (p e w : ℕ → ℕ) (xs : List ℕ) (i : ℕ) (form : Form (freshTask
     above = record {
       numbers = numbers-fresh xs;
       asks = λ t. asks-fresh t xs;
-      good = good-idle (λ k. 0) w e (freshTasks p e xs) form (each-of _ (λ t x. x .left) (all-fresh p e xs)) (fits-demand p e w xs form periods fits) (fresh-budgets p e xs);
+      good = good-idle (λ k. 0) w e (freshTasks p e xs) form (each-of _ (λ t x. x .left) (all-fresh p e xs)) (meets-demand p e w xs form periods meets) (fresh-budgets p e xs);
     };
     timed = timed-fresh xs periods;
     total = omega (arith, work-fresh xs, none-asked xs periods);
     waits = pos;
   }
-
--- the first tasks of a state in form are in form
-form-take : (k : ℕ) (s : List Task) → Form s → Form (take k s)
-form-take k s f = record {
-  count = omega (arith, f .count, length-take k s);
-  sound = each-take Sound k s (f .sound);
-  distinct = pairs-take Distinct k s (f .distinct);
-  ordered = pairs-take Above k s (f .ordered);
-}
 
 -- a fresh task is released at once
 fresh-accepted : (p e i : ℕ) → releaseAnswer (freshTask p e i) ≡ accepted
@@ -122,7 +114,7 @@ unfolding releaseAnswer early pending
 fresh-accepted p e i = rw (le-ltb p p (omega arith))
 
 -- a task i below tasks xs that all fit: as long as no t up to n meets its demand, its job is pending after n rounds of the worst run
-module _ (p e w : ℕ → ℕ) (xs : List ℕ) (i : ℕ) (ys : List ℕ) (form : Form (freshTasks p e (xs ++ i ∷ ys))) (periods : Each (λ j. 1 ≤ p j) (xs ++ i ∷ ys)) (budget : 1 ≤ e i) (fits : EachFits p e w xs) (n : ℕ) (short : Short (level p e xs i) n) where
+module _ (p e w : ℕ → ℕ) (xs : List ℕ) (i : ℕ) (ys : List ℕ) (form : Form (freshTasks p e (xs ++ i ∷ ys))) (periods : Each (λ j. 1 ≤ p j) (xs ++ i ∷ ys)) (budget : 1 ≤ e i) (meets : EachMeets p e w xs) (n : ℕ) (short : Short (level p e xs i) n) where
   abbrev pub all : List Task
   all = freshTasks p e (xs ++ i ∷ ys)
 
@@ -165,7 +157,7 @@ module _ (p e w : ℕ → ℕ) (xs : List ℕ) (i : ℕ) (ys : List ℕ) (form :
   pending-after : 0 < nth (run next (next (release i) all) cs) (length higher) .left
   pending-after =
       let k = length higher in
-      let r = rounds-held p e w xs i n 0 higher begun (λ t x y. short t x (omega arith)) (held-first p e w xs i upper-form upper-periods fits budget) in
+      let r = rounds-held p e w xs i n 0 higher begun (λ t x y. short t x (omega arith)) (held-first p e w xs i upper-form upper-periods meets budget) in
       let front : take (suc k) (next (release i) all) ≡ higher ++ begun ∷ [] = ap (take (suc k)) (started ∙ sym (append-snoc higher begun lower)) ∙ take-at (higher ++ begun ∷ []) lower (suc k) (length-append higher (begun ∷ []) ∙ omega arith) in
       let level-run = take-run (suc k) cs (next (release i) all) ∙ ap (λ x. run next x cs) front ∙ r .2 in
       let last : nth (run next (next (release i) all) cs) k ≡ r .1 = sym (getD-take (suc k) (run next (next (release i) all) cs) k noTask (omega arith)) ∙ ap (λ x. nth x k) level-run ∙ getD-at (r .0) (r .1) [] noTask k (r .3) in
@@ -192,16 +184,16 @@ module _ (p e w : ℕ → ℕ) (xs : List ℕ) (i : ℕ) (ys : List ℕ) (form :
   late h z = not-ended (ended-by p e all i cs first (h (release i ∷ cs)) (each-between _ xs i ys refl periods) (ticks-after ∙ sym z))
 
 -- where each task of a list fits, so does each of those before one of them
-pub fits-front : (p e w : ℕ → ℕ) (l xs : List ℕ) (i : ℕ) (ys : List ℕ) → l ≡ xs ++ i ∷ ys → EachFits p e w l → EachFits p e w xs
-fits-front p e w l xs i ys s h us j vs t = h us j (vs ++ i ∷ ys) (s ∙ ap (λ (x : List ℕ). x ++ i ∷ ys) t ∙ append-assoc us (j ∷ vs) (i ∷ ys))
+pub meets-front : (p e w : ℕ → ℕ) (l xs : List ℕ) (i : ℕ) (ys : List ℕ) → l ≡ xs ++ i ∷ ys → EachMeets p e w l → EachMeets p e w xs
+meets-front p e w l xs i ys s h us j vs t = h us j (vs ++ i ∷ ys) (s ∙ ap (λ (x : List ℕ). x ++ i ∷ ys) t ∙ append-assoc us (j ∷ vs) (i ∷ ys))
 
 -- where each task fits or falls short, and no run leaves a job pending, each fits
-module _ (p e w : ℕ → ℕ) (l : List ℕ) (form : Form (freshTasks p e l)) (periods : Each (λ j. 1 ≤ p j) l) (budgets : Each (λ j. 1 ≤ e j) l) (h : (cs : List Call) (j : ℕ) → EndsBy (p j) (e j) j (log answer next (freshTasks p e l) cs)) (pick : (xs : List ℕ) (i : ℕ) (ys : List ℕ) → l ≡ xs ++ i ∷ ys → Fits (level p e xs i) (p i) (w i) ⊎ Short (level p e xs i) (p i)) where
-  fits-before : (n : ℕ) (xs : List ℕ) (i : ℕ) (ys : List ℕ) → length xs < n → l ≡ xs ++ i ∷ ys → Fits (level p e xs i) (p i) (w i)
-  fits-before zero xs i ys lt s = absurd (omega arith)
-  fits-before (suc n) xs i ys lt s =
-      let prior : EachFits p e w xs = λ us j vs t. fits-before n us j (vs ++ i ∷ ys) (omega (arith, ap length t, length-append us (j ∷ vs))) (s ∙ ap (λ (x : List ℕ). x ++ i ∷ ys) t ∙ append-assoc us (j ∷ vs) (i ∷ ys)) in
+module _ (p e w : ℕ → ℕ) (l : List ℕ) (form : Form (freshTasks p e l)) (periods : Each (λ j. 1 ≤ p j) l) (budgets : Each (λ j. 1 ≤ e j) l) (h : (cs : List Call) (j : ℕ) → EndsBy (p j) (e j) j (log answer next (freshTasks p e l) cs)) (pick : (xs : List ℕ) (i : ℕ) (ys : List ℕ) → l ≡ xs ++ i ∷ ys → Meets (level p e xs i) (p i) (w i) ⊎ Short (level p e xs i) (p i)) where
+  meets-before : (n : ℕ) (xs : List ℕ) (i : ℕ) (ys : List ℕ) → length xs < n → l ≡ xs ++ i ∷ ys → Meets (level p e xs i) (p i) (w i)
+  meets-before zero xs i ys lt s = absurd (omega arith)
+  meets-before (suc n) xs i ys lt s =
+      let prior : EachMeets p e w xs = λ us j vs t. meets-before n us j (vs ++ i ∷ ys) (omega (arith, ap length t, length-append us (j ∷ vs))) (s ∙ ap (λ (x : List ℕ). x ++ i ∷ ys) t ∙ append-assoc us (j ∷ vs) (i ∷ ys)) in
       ⊎-elim (λ f. f) (λ short. absurd (late p e w xs i ys (subst (λ x. Form (freshTasks p e x)) s form) (subst (Each (λ j. 1 ≤ p j)) s periods) (each-between _ xs i ys s budgets) prior (p i) short (λ cs. subst (λ x. EndsBy (p i) (e i) i (log answer next (freshTasks p e x) cs)) s (h cs i)) refl)) (pick xs i ys s)
 
-  pub each-fits : EachFits p e w l
-  each-fits xs i ys s = fits-before (suc (length xs)) xs i ys (omega arith) s
+  pub each-meets : EachMeets p e w l
+  each-meets xs i ys s = meets-before (suc (length xs)) xs i ys (omega arith) s

@@ -37,12 +37,6 @@ rounds js (suc n) = round js ++ rounds js n
 abbrev pub numbersOf : List Task → List ℕ
 numbersOf s = map (λ t. t .number) s
 
--- the state after two lists of calls
-pub run-both : (cs ds : List Call) (s : List Task) → run next s (cs ++ ds) ≡ run next (run next s cs) ds
-unfolding run
-run-both [] ds s = refl
-run-both (c ∷ cs) ds s = run-both cs ds (next c s)
-
 -- the first k tasks run by themselves
 pub take-run : (k : ℕ) (cs : List Call) (s : List Task) → take k (run next s cs) ≡ run next (take k s) cs
 unfolding run

@@ -14,7 +14,7 @@ use Rattle.fit.specs.Lists.{sum}
 use Rattle.fit.specs.Rounding.{ceiling}
 use Rattle.margin.specs.Margin.{request}
 use Rattle.margin.specs.Steps.{requests, demandBelow, Ranged, no-tasks, one-more}
-use Rattle.margin.proofs.Rounds.{ceiling-mono}
+use Rattle.margin.proofs.Ceilings.{ceiling-mono}
 
 -- a budget times a quotient by a period that is no shorter is at most the number divided, so a request is at most t and a period
 share-small : (p e x : ℕ) → e ≤ p → e * (x / p) ≤ x

@@ -1,32 +1,19 @@
 -- The search for the smallest number that meets a demand, step by step as the code goes.
 -- Assumes nothing.
-use Prim.Native.Nat.{ℕ, zero, suc, _+_, _≤_, _<_}
+use Prim.Native.Nat.{ℕ, _≤_, _<_}
 use mathlib.Core.Path.{_≡_, _∙_}
-use mathlib.Core.Bool.{Bool, true, false}
+use mathlib.Core.Bool.{false}
 use mathlib.Core.Option.{none, some}
 use mathlib.Core.List.{List}
-use native.Mathlib.Decide.{decLt, ℕ-discrete}
+use native.Mathlib.Decide.{decLt}
 use native.Mathlib.Omega.{arith}
 use borrow.Author.Tests.{le-leb, lt-leb}
 use lib.IntN.{ℤ, pos, _-ℤ_}
-use lib.Arith.{lt-of-le-ne}
 use Rattle.fit.specs.Lists.{numbers, find}
-use Rattle.fit.proofs.Finds.{none-find}
+use Rattle.fit.proofs.Finds.{none-find, find-first}
 use Rattle.margin.specs.Margin.{met, smallest, marginFrom}
 use Rattle.margin.specs.Steps.{demandBelow, marginBelow, Ranged}
 use Rattle.margin.proofs.Requests.{demand-grows}
-
--- the first number that passes is found
-pub find-first : (q : ℕ → Bool) (a n i : ℕ) → a ≤ i → i < a + n → q i ≡ true → ((s : ℕ) → a ≤ s → s < i → q s ≡ false) → find q (numbers a n) ≡ some i
-unfolding find numbers
-find-first q a zero i h k e f = absurd (omega arith)
-find-first q a (suc n) i h k e f = by (ℕ-discrete a i) (find-first q (suc a) n i)
-  where
-    by : Dec (a ≡ i) → (suc a ≤ i → i < suc a + n → q i ≡ true → ((s : ℕ) → suc a ≤ s → s < i → q s ≡ false) → find q (numbers (suc a) n) ≡ some i) → find q (numbers a (suc n)) ≡ some i
-    by (yes z) rec = rw (z, e)
-    by (no z) rec =
-        let less : a < i = lt-of-le-ne h z in
-        rw (f a (omega arith) less) (rec (omega arith) (omega arith) e (λ s b c. f s (omega arith) c))
 
 -- no number from 1 up to t meets the demand below these tasks
 pub record Unmet (ps es : List ℕ) (b t : ℕ) : Type 0 where

@@ -34,8 +34,8 @@ negative-size (pos (suc n)) = refl
 negative-size (negsuc n) = refl
 
 -- minus a number, in 64 bits
-abbrev minus : ℤ → ℤ
-minus z = toZ w64 0 -ℤ toZ w64 (ofZ w64 (toZ w32 (ofZ w32 z)))
+abbrev negated : ℤ → ℤ
+negated z = toZ w64 0 -ℤ toZ w64 (ofZ w64 (toZ w32 (ofZ w32 z)))
 
 module _ (z : ℤ) (f : SFits w32 z) where
   same : toZ w32 (ofZ w32 z) ≡ z
@@ -44,24 +44,24 @@ module _ (z : ℤ) (f : SFits w32 z) where
   wider : SFits w64 z
   wider = sfits-widen {w = w32} {w′ = w64} tt f
 
-  minus-is : minus z ≡ negℤ z
-  minus-is = +ℤ-idl _ ∙ ap negℤ (ap (λ (x : ℤ). toZ w64 (ofZ w64 x)) same ∙ toZ-ofZ w64 z wider)
+  negated-is : negated z ≡ negℤ z
+  negated-is = +ℤ-idl _ ∙ ap negℤ (ap (λ (x : ℤ). toZ w64 (ofZ w64 x)) same ∙ toZ-ofZ w64 z wider)
 
   pub wide-fits : SFits w64 (toZ w32 (ofZ w32 z))
   wide-fits = subst (SFits w64) (sym same) wider
 
-  pub minus-fits : SFits w64 (minus z)
-  minus-fits = subst (SFits w64) (sym minus-is) (negative-fits z f)
+  pub negated-fits : SFits w64 (negated z)
+  negated-fits = subst (SFits w64) (sym negated-is) (negative-fits z f)
 
-  read-back : toZ w64 (ofZ w64 (minus z)) ≡ negℤ z
-  read-back = toZ-ofZ w64 (minus z) minus-fits ∙ minus-is
+  read-back : toZ w64 (ofZ w64 (negated z)) ≡ negℤ z
+  read-back = toZ-ofZ w64 (negated z) negated-fits ∙ negated-is
 
-  pub minus-size : natAbs (toZ w64 (ofZ w64 (minus z))) ≡ natAbs z
-  minus-size = ap natAbs read-back ∙ negative-size z
+  pub negated-size : natAbs (toZ w64 (ofZ w64 (negated z))) ≡ natAbs z
+  negated-size = ap natAbs read-back ∙ negative-size z
 
-  pub minus-casts : ltZ (toZ w32 (ofZ w32 z)) (pos 0) ≡ true → T (nonNeg (toZ w64 (ofZ w64 (minus z)))) × Fits w64 (natAbs (toZ w64 (ofZ w64 (minus z))))
-  minus-casts h =
-      (subst (λ (x : ℤ). T (nonNeg x)) (sym read-back) (below-zero z (subst (λ (x : ℤ). ltZ x (pos 0) ≡ true) same h)), subst (Fits w64) (sym minus-size) (fits-natAbs {w = w32} {w′ = w64} tt f))
+  pub negated-casts : ltZ (toZ w32 (ofZ w32 z)) (pos 0) ≡ true → T (nonNeg (toZ w64 (ofZ w64 (negated z)))) × Fits w64 (natAbs (toZ w64 (ofZ w64 (negated z))))
+  negated-casts h =
+      (subst (λ (x : ℤ). T (nonNeg x)) (sym read-back) (below-zero z (subst (λ (x : ℤ). ltZ x (pos 0) ≡ true) same h)), subst (Fits w64) (sym negated-size) (fits-natAbs {w = w32} {w′ = w64} tt f))
 
   pub same-casts : ltZ (toZ w32 (ofZ w32 z)) (pos 0) ≡ false → T (nonNeg (toZ w32 (ofZ w32 z))) × Fits w64 (natAbs (toZ w32 (ofZ w32 z)))
   same-casts h = (not-below (toZ w32 (ofZ w32 z)) h, subst (λ (x : ℤ). Fits w64 (natAbs x)) (sym same) (fits-natAbs {w = w32} {w′ = w64} tt f))

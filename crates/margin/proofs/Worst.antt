@@ -14,18 +14,18 @@ use Rattle.fit.proofs.Lists.{each-both}
 use Rattle.fit.proofs.Ceiling.{ceiling-reaches}
 use Rattle.timing.specs.declared.Task.{Task}
 use Rattle.timing.specs.Tasks.{pending, withJob, released, used, older}
-use Rattle.timing.specs.Calls.{Call, tick, Answer, modify, next, run}
+use Rattle.timing.specs.Calls.{Call, tick, Answer, modify, answer, next, run}
 use Rattle.timing.specs.Serving.{nth}
 use Rattle.timing.proofs.Rate.{sumOf}
 use Rattle.timing.proofs.Lists.{zero-or-pos, each-map, nth-each, sum-map}
-use Rattle.timing.proofs.Runs.{run-kept}
+use Rattle.timing.proofs.Runs.{run-kept, run-both}
 use Rattle.timing.proofs.Steps.{Release, is-early, is-late, starts, release-view, changed-pending, each-changed, bare, bare-next, length-next}
 use Rattle.timing.proofs.Level.{work, work-used, work-older, work-tick}
 use Rattle.timing.proofs.OnTime.{Good, good-kept, young}
 use Rattle.margin.specs.Margin.{request}
-use Rattle.margin.proofs.Rounds.{ceiling-same, ceiling-more}
+use Rattle.margin.proofs.Ceilings.{ceiling-same, ceiling-more}
 use Rattle.margin.proofs.Enough.{level}
-use Rattle.margin.proofs.Releases.{releases, round, rounds, numbersOf, run-both, release-all, next-last}
+use Rattle.margin.proofs.Releases.{releases, round, rounds, numbersOf, release-all, next-last}
 
 -- what a task asks for in b ticks
 abbrev pub asked : ℕ → Task → ℕ
@@ -139,7 +139,7 @@ module _ (p e w : ℕ → ℕ) (xs : List ℕ) (i : ℕ) where
       wait = waiting b s (h .above) (h .timed)
 
       runs : (rest : List Task) → run next (s ++ rest) (round xs) ≡ next tick (r ++ rest)
-      runs rest = run-both (releases xs) (tick ∷ []) (s ++ rest) ∙ ap (next tick) (ap (λ x. run next (s ++ rest) (releases x)) (sym (h .above .numbers)) ∙ release-all s rest (h .above .good .form .distinct))
+      runs rest = run-both answer next (releases xs) (tick ∷ []) (s ++ rest) ∙ ap (next tick) (ap (λ x. run next (s ++ rest) (releases x)) (sym (h .above .numbers)) ∙ release-all s rest (h .above .good .form .distinct))
 
       kept : Numbered (next tick r)
       kept = subst Numbered (ap (λ x. run next x (round xs)) (sym (append-nil s)) ∙ runs [] ∙ ap (next tick) (append-nil r)) (run-kept next Numbered numbered-next (round xs) s (h .above))
@@ -163,4 +163,4 @@ module _ (p e w : ℕ → ℕ) (xs : List ℕ) (i : ℕ) where
   rounds-held (suc n) b s u short h =
       let one = round-held b s u (short (b + 1) (omega arith) (omega arith)) h in
       let more = rounds-held n (b + 1) (next tick (map released s)) (one .0) (λ t x y. short t (omega arith) (omega arith)) (one .2) in
-      (more .0, more .1, run-both (round xs) (rounds xs n) (s ++ u ∷ []) ∙ ap (λ x. run next x (rounds xs n)) (one .1) ∙ more .2, more .3 ∙ length-next tick (map released s) ∙ length-map s released, more .4)
+      (more .0, more .1, run-both answer next (round xs) (rounds xs n) (s ++ u ∷ []) ∙ ap (λ x. run next x (rounds xs n)) (one .1) ∙ more .2, more .3 ∙ length-next tick (map released s) ∙ length-map s released, more .4)

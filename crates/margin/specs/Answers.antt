@@ -27,10 +27,11 @@ outcomeOf (Turned w p) = refused (numberOf w) p
 abbrev pub marginIn : List ℕ → ℕ → ℤ
 marginIn l j = margin (jobPeriod l) (jobBudget l) (numbers 0 (jobCount l)) j
 
--- the refusal of the list (5, 4, 7, 8), if any; then 17 with place 0 where it has no task j; else the margin of task j
+-- the refusal r of the list, if any; then 17 with place 0 where it has no task j; else the margin of task j
 unfoldable pub answerFrom : Option Refused → List ℕ → ℕ → Outcome
 answerFrom none l j = cond (ltb j (jobCount l)) (ticks (marginIn l j)) (refused 17 0)
 answerFrom (some r) l j = refused (r .number) (r .place)
 
+-- what `margin` answers: 5, 4, 7, 8 of the list, then 17, else the margin of task j
 unfoldable pub marginAnswer : List ℕ → ℕ → Outcome
 marginAnswer l j = answerFrom (scan (listRows 0 l)) l j

@@ -17,8 +17,8 @@ use Rattle.margin.specs.Margin.{margin}
 use Rattle.margin.specs.Answers.{ticks, marginAnswer}
 
 -- every margin that is answered for a list is zero or more
-unfoldable pub NoneBelow : List ℕ → Type 0
-NoneBelow l = (j : ℕ) (m : ℤ) → marginAnswer l j ≡ ticks m → pos 0 ≤ℤ m
+unfoldable pub NoneBelowZero : List ℕ → Type 0
+NoneBelowZero l = (j : ℕ) (m : ℤ) → marginAnswer l j ≡ ticks m → pos 0 ≤ℤ m
 
 -- the log of a list of calls from the bench start of a job list
 abbrev pub benchLog : List ℕ → List Call → List Entry
@@ -40,17 +40,17 @@ pub record PendingAfter (l : List ℕ) (j t : ℕ) : Type 0 where
 -- What the margins of a list tell.
 pub record Exact (l : List ℕ) : Type 0 where
   -- every margin is zero or more exactly when no run leaves a job pending once its period has passed
-  pub enough : NoneBelow l → NonePending l
-  pub needed : NonePending l → NoneBelow l
+  pub enough : NoneBelowZero l → NonePending l
+  pub needed : NonePending l → NoneBelowZero l
   -- then every run obeys the on-time rule with the periods
-  pub on-time : NoneBelow l → (cs : List Call) → OnTime (jobPeriod l) (jobBudget l) (benchLog l cs)
+  pub on-time : NoneBelowZero l → (cs : List Call) → OnTime (jobPeriod l) (jobBudget l) (benchLog l cs)
   -- whatever the other margins are, a margin m of zero or more leaves each job of its task m ticks to spare
   pub ends : (j m t : ℕ) → marginAnswer l j ≡ ticks (pos m) → t + m ≡ jobPeriod l j → (cs : List Call) → EndsBy t (jobBudget l j) j (benchLog l cs)
   -- and where no margin is below zero, no more than these: some job of the task is pending until then
-  pub no-sooner : NoneBelow l → (j m t : ℕ) → marginAnswer l j ≡ ticks (pos m) → t + m < jobPeriod l j → PendingAfter l j t
+  pub no-sooner : NoneBelowZero l → (j m t : ℕ) → marginAnswer l j ≡ ticks (pos m) → t + m < jobPeriod l j → PendingAfter l j t
 
 -- on core k of sheet s each margin is at least p - w
-unfoldable pub AtLeast : List ℕ → ℕ → Type 0
-AtLeast s k =
+unfoldable pub MarginsAtLeast : List ℕ → ℕ → Type 0
+MarginsAtLeast s k =
     let f = figures s in
     Each (λ i. (pos (f .period i) -ℤ pos (withinOn f k i)) ≤ℤ margin (f .period) (f .budget) (orderOn f k) i) (orderOn f k)

@@ -14,7 +14,7 @@ use Rattle.fit.specs.Priority.{above}
 unfoldable pub tasksAbove : (ℕ → ℕ) → List ℕ → ℕ → List ℕ
 tasksAbove p l i = select (λ j. above p j i) l
 
--- what task j asks for in t ticks: its budget times t / p rounded up
+-- what task j asks for in t ticks: its budget times (t / p rounded up)
 unfoldable pub request : (ℕ → ℕ) → (ℕ → ℕ) → ℕ → ℕ → ℕ
 request p e t j = e j * ceiling t (p j)
 

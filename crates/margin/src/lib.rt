@@ -28,7 +28,7 @@ struct HigherTasks {
     budgets: [u16; 64],
 }
 
-// What a task asks for in t ticks: its budget times t / period rounded up.
+// What a task asks for in t ticks: its budget times (t / period rounded up).
 fn request(period: u16, budget: u16, t: u32) -> u32
     requires { ⌜ (1 ≤ period) × (period ≤ 60000) × (budget ≤ period) × (t ≤ 60000) ⌝ }
     ensures { λ r. ⌜ (r ≡ budget * ceiling t period) × (r ≤ 120000) ⌝ }

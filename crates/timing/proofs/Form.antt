@@ -1,9 +1,12 @@
 -- Every call, accepted or refused, keeps the state's own form.
 -- Assumes nothing.
+use Prim.Native.Nat.{ℕ}
 use mathlib.Core.Path.{_≡_, refl, sym, ap, _∙_, subst}
 use mathlib.Core.List.{List, [], _∷_, map}
 use native.Mathlib.Omega.{arith}
+use lib.ListN.{take, length-take}
 use Rattle.fit.specs.Lists.{Each, EachPair}
+use Rattle.fit.proofs.Lists.{each-take, pairs-take}
 use Rattle.timing.specs.declared.Task.{Task}
 use Rattle.timing.specs.Tasks.{pending, withJob, released, finished, used, older}
 use Rattle.timing.specs.Calls.{Call, release, finish, tick, releaseAnswer, finishAnswer, modify, next, run}
@@ -48,3 +51,12 @@ form-kept c s h = record {
 -- a list of calls hands back a state in form
 pub form-run : (cs : List Call) (s : List Task) → Form s → Form (run next s cs)
 form-run cs s h = run-kept next Form form-kept cs s h
+
+-- the first tasks of a state in form are in form
+pub form-take : (k : ℕ) (s : List Task) → Form s → Form (take k s)
+form-take k s f = record {
+  count = omega (arith, f .count, length-take k s);
+  sound = each-take Sound k s (f .sound);
+  distinct = pairs-take Distinct k s (f .distinct);
+  ordered = pairs-take Above k s (f .ordered);
+}

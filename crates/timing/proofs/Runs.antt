@@ -145,3 +145,9 @@ module _ {S : Type 0} (ask : Call → S → Answer) (step : Call → S → S) wh
   unfolding log run
   log-append [] ds s = refl
   log-append (c ∷ cs) ds s = ap (λ l. entry c (ask c s) ∷ l) (log-append cs ds (step c s))
+
+  -- and the state after them
+  pub run-both : (cs ds : List Call) (s : S) → run step s (cs ++ ds) ≡ run step (run step s cs) ds
+  unfolding run
+  run-both [] ds s = refl
+  run-both (c ∷ cs) ds s = run-both cs ds (step c s)

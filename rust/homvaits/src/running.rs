@@ -58,8 +58,8 @@ impl Core {
         }
     }
 
-    /// Starts a core from a job list without a sheet, for the bench: nothing promises that its jobs end on time, and
-    /// [`margin`](crate::margin) tells whether they do. A job's place in the list is its task number.
+    /// Starts a core from a job list without a sheet, for the bench: nothing promises that its jobs end on time, but
+    /// [`margin`](crate::margin) tells of each task how many ticks its jobs have to spare. A job's place in the list is its task number.
     ///
     /// # Errors
     ///

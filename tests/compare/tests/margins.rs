@@ -235,13 +235,13 @@ fn a_margin_of_zero_or_more_is_kept_by_itself() {
 /// Task 1 can be late, and is then released later than the demand of task 2
 /// counts; so no run keeps task 2 from its one tick for 34.
 #[test]
-fn a_margin_below_zero_alone_tells_nothing() {
+fn a_margin_below_zero_may_be_anothers_fault() {
     let jobs = [(5, 2), (7, 4), (34, 1)];
     assert_eq!(margins(&LIBRARY, &jobs), [3, -1, -1]);
     let found = longest(&LIBRARY, &jobs, false);
     assert_eq!((found[0], found[1]), (Some(2), None));
     assert!(found[2].is_some());
-    // task 2 of the same list with one tick more has margin 0
+    // task 2 with a period one tick longer has margin 0
     let jobs = [(5, 2), (7, 4), (35, 1)];
     assert_eq!(margins(&LIBRARY, &jobs), [3, -1, 0]);
     assert!(to_spare(&jobs[2], longest(&LIBRARY, &jobs, false)[2]) >= Some(0));

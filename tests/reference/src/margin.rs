@@ -30,8 +30,8 @@ fn margin_of(jobs: &[Job], task: usize) -> i64 {
     }
 }
 
-/// The task's budget, plus for each task above it the budget times t / p
-/// rounded up.
+/// The task's budget, plus for each task above it the budget times (t / p
+/// rounded up).
 fn demand(jobs: &[Job], task: usize, t: i64) -> i64 {
     let mut demand = jobs[task].budget;
     for (other, job) in jobs.iter().enumerate() {

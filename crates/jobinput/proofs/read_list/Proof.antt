@@ -1,6 +1,6 @@
 use borrow.Author.Needs.{needs}
 use Rattle.input.proofs.Fronts.{bytes-inside, bytes-front}
-use Rattle.jobinput.proofs.Fronts.{front-text}
+use Rattle.jobinput.proofs.Fronts.{front-text, front-taken}
 use Rattle.jobinput.proofs.read_list.Statement.{statement}
 use Rattle.jobinput.proofs.read_list.Tie as tie
 use Rattle.jobinput.proofs.read_list.Reads as reads
@@ -59,7 +59,7 @@ same-length-4 : tie.Need-same-length-4
 same-length-4 c = search needs
 
 returns-3 : tie.Need-returns-3
-returns-3 c = search (front-text, bytes-inside, needs)
+returns-3 c = (search (front-text, bytes-inside, needs), search (front-taken, bytes-inside, needs))
 
 pub read-list-spec : {M : Type 1} → statement M
 read-list-spec =

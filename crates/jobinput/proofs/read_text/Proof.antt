@@ -1,6 +1,6 @@
 use borrow.Author.Needs.{needs}
 use Rattle.jobtext.proofs.Texts.{jobs-inside}
-use Rattle.jobinput.proofs.Fronts.{whole-text}
+use Rattle.jobinput.proofs.Fronts.{whole-text, whole-taken}
 use Rattle.jobinput.proofs.read_text.Statement.{statement}
 use Rattle.jobinput.proofs.read_text.Tie as tie
 use Rattle.jobinput.proofs.read_text.Reads as reads
@@ -33,7 +33,7 @@ same-length-2 : tie.Need-same-length-2
 same-length-2 c = search needs
 
 returns-2 : tie.Need-returns-2
-returns-2 c = search (whole-text, jobs-inside, needs)
+returns-2 c = (search (whole-text, jobs-inside, needs), search (whole-taken, needs))
 
 pub read-text-spec : {M : Type 1} → statement M
 read-text-spec =
