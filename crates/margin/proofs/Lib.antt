@@ -11,3 +11,4 @@ pub mod Releases
 pub mod Worst
 pub mod Needed
 pub mod Exact
+pub mod Counterexample
