@@ -1,4 +1,5 @@
--- Where every task of a list has a t within its period that meets its demand, every run from the fresh tasks is on time.
+-- Where every task of a list has a t within its period that meets its demand, every run from the fresh tasks is on time; and where one has,
+-- its own jobs are.
 -- Assumes nothing.
 use Prim.Native.Nat.{ℕ, suc, _+_, _*_, _≤_}
 use mathlib.Core.Path.{_≡_, refl, sym, ap, subst, _∙_}

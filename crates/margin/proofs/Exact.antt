@@ -55,7 +55,7 @@ module _ (p e : ℕ → ℕ) (l : List ℕ) (rising : EachPair (Above p) l) wher
   unfolding level
   levels xs i ys s = fun-ext (λ t. demand-level p e l xs i ys t rising s)
 
-  -- where each task fits at some w, its level does, and back
+  -- where each task meets its demand at some w, its level does, and back
   meets-levels : (w : ℕ → ℕ) → Each (λ i. Meets (demand p e l i) (p i) (w i)) l → EachMeets p e w l
   meets-levels w h xs i ys s = subst (λ d. Meets d (p i) (w i)) (levels xs i ys s) (each-between _ xs i ys s h)
 
@@ -79,7 +79,7 @@ demand-order p e n i = fun-ext (λ t. ap (λ (s : ℕ). e i + s) (same (request 
 state-log : (ts : List Task) → Form ts → (cs : List Call) → log ask step (stateOf ts) cs ≡ log answer next ts cs
 state-log ts form cs = log-form cs (stateOf ts) (state-places ts (form .count)) (state-form ts form) ∙ ap (λ t. log answer next t cs) (state-tasks ts)
 
--- a list that is refused: no margin is answered, and nothing is released
+-- a list that is refused: no margin is answered, and no release is accepted
 refused-exact : (l : List ℕ) (r : Refused) → scan (listRows 0 l) ≡ some r → Exact l
 unfolding NoneBelowZero NonePending marginAnswer answerFrom listState freshTasks Each EachPair
 refused-exact l r x = record {
@@ -165,7 +165,7 @@ module _ (l : List ℕ) (clear : none ≡ scan (listRows 0 l)) where
       by true x q = (ltb-true j (jobCount l) x, cc)
       by false x q = absurd (let z : _≡_ {A = ℕ} 0 1 = cc in omega arith)
 
-  -- where every margin is zero or more, each task fits at its smallest t, which its margin leaves of its period
+  -- where every margin is zero or more, each task meets its demand at its smallest t; what that leaves of its period is its margin
   all-meet : NoneBelowZero l → Each (λ i. Meets (demand p e ord i) (p i) (w i)) ord
   unfolding NoneBelowZero
   all-meet h = each-of ord (λ i lt. margin-in-meets i lt (h i (marginIn l i) (answered i lt))) members
