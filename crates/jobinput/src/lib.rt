@@ -1,7 +1,8 @@
 // A job list as text on standard input, and what is said on standard error where it is wrong.
 ghost use mathlib.Core.Path.{_≡_};
 ghost use lib.ListN.{length};
-ghost use Rattle.jobinput.specs.Inputs.{Inside, Taken};
+ghost use Rattle.sheet.specs.Refusals.{numberOf};
+ghost use Rattle.jobinput.specs.Inputs.{Inside, Taken, ofJob, lineNamed};
 use input::Input;
 use jobtext::Fault;
 use jobtext::Read;
@@ -15,7 +16,7 @@ pub enum Given {
 }
 
 // Writes to standard error.
-pub fn say(text: &[u8]) {
+fn say(text: &[u8]) {
     io::write_all(STDERR_FILENO, text);
 }
 
@@ -34,13 +35,20 @@ fn say_line(line: u64, fault: Fault) {
 }
 
 // Whether the place of a refusal is a job.
-fn is_of_job(word: Refusal) -> bool {
-    match word {
-        Refusal::Period => true,
-        Refusal::Budget => true,
-        Refusal::NoFit => true,
-        _ => false,
+fn is_of_job(number: u8) -> bool
+    ensures { λ r. ⌜ r ≡ ofJob number ⌝ }
+{
+    (number == 7) | ((number == 8) | (number == 15))
+}
+
+// The line of the job at the place of a refusal, or 0 where the place is none.
+fn line_named(number: u8, place: u16, text: &[u8]) -> u64
+    ensures { λ r. ⌜ r ≡ lineNamed number place (now (text .entry)) ⌝ }
+{
+    if is_of_job(number) {
+        return jobtext::line_of(text, place as usize);
     }
+    0
 }
 
 // The reason of a refusal, of a list that is empty or not. The text has at most 64 jobs, so the word Count is of the core limit.
@@ -61,18 +69,23 @@ fn say_reason(word: Refusal, empty: bool) {
     }
 }
 
-// Says why the list of a text, empty or not, is refused.
-pub fn say_refused(word: Refusal, place: u16, text: &[u8], empty: bool) {
+// Says why the list of a text, empty or not, is refused. Returns the line that it names, or 0 where it names none.
+pub fn say_refused(word: Refusal, place: u16, text: &[u8], empty: bool) -> u64
+    ensures { λ r. ⌜ r ≡ lineNamed (numberOf word) place (now (text .entry)) ⌝ }
+{
+    let number = sheet::number(word);
+    let line = line_named(number, place, text);
     say(b"refused ");
-    say_number(sheet::number(word) as u64);
+    say_number(number as u64);
     say(b" place ");
     say_number(place as u64);
-    if is_of_job(word) {
+    if 0 < line {
         say(b" line ");
-        say_number(jobtext::line_of(text, place as usize));
+        say_number(line);
     }
     say_reason(word, empty);
     say(b"\n");
+    line
 }
 
 // The jobs of a text, or what is wrong with it.

@@ -56,7 +56,7 @@ fn print_margins(text: &[u8], list: &[u8]) {
 
 fn main() {
     if 1 < os::arg_count() {
-        jobinput::say(b"usage: margins < JOBS\n");
+        io::write_all(libc::STDERR_FILENO, b"usage: margins < JOBS\n");
         return;
     }
     let mut text = io::large_buffer();

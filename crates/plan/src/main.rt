@@ -5,6 +5,7 @@ ghost use Prim.Native.Nat.{_≤_};
 ghost use Rattle.jobtext.specs.Text.{isDigit};
 ghost use Rattle.plan.specs.Number.{longer, numberIn};
 use jobinput::Given;
+use libc::STDERR_FILENO;
 use libc::STDOUT_FILENO;
 use planner::Planned;
 
@@ -60,7 +61,10 @@ fn argument(i: usize, absent: u64) -> Number {
 }
 
 fn say_usage() {
-    jobinput::say(b"usage: plan [LIMIT [START]] < JOBS > SHEET\n");
+    io::write_all(
+        STDERR_FILENO,
+        b"usage: plan [LIMIT [START]] < JOBS > SHEET\n",
+    );
 }
 
 // Plans the job list of a text and writes the sheet.
@@ -69,7 +73,7 @@ fn plan_jobs(text: &[u8], jobs: &[u8], limit: u64, start: u64) {
     let planned = planner::plan(jobs, limit, start, &mut sheet);
     match planned {
         Planned::Refused { word, place } => {
-            jobinput::say_refused(word, place, text, jobs.len() == 0)
+            jobinput::say_refused(word, place, text, jobs.len() == 0);
         }
         Planned::Written {
             tasks: _,

@@ -6,18 +6,18 @@ use Rattle.margins.proofs.main.Reads as reads
 use Rattle.margins.proofs.main.Lts as lts
 use Rattle.io.proofs.large_buffer.Reads as large-buffer-reads
 use Rattle.jobinput.proofs.read_list.Reads as read-list-reads
-use Rattle.jobinput.proofs.say.Reads as say-reads
+use Rattle.io.proofs.write_all.Reads as write-all-reads
 use Rattle.margins.proofs.print_margins.Reads as print-margins-reads
 use Rattle.os.proofs.arg_count.Reads as arg-count-reads
 
 arg-count-requires : tie.Need-arg-count-requires
 arg-count-requires c κs = search needs
 
-slice-aggregate-say : tie.Need-slice-aggregate-say
-slice-aggregate-say c = search needs
+slice-aggregate-write-all : tie.Need-slice-aggregate-write-all
+slice-aggregate-write-all c = search needs
 
-say-requires : tie.Need-say-requires
-say-requires c κs = search needs
+write-all-requires : tie.Need-write-all-requires
+write-all-requires c κs = search needs
 
 returns : tie.Need-returns
 returns c = search needs
@@ -66,8 +66,8 @@ main-spec =
     tie.close
     (tie.spec
     arg-count-requires
-    slice-aggregate-say
-    say-requires
+    slice-aggregate-write-all
+    write-all-requires
     returns
     large-buffer-requires
     slice-aggregate-read-list
