@@ -9,7 +9,12 @@
  *
  * Every answer has a `refusal`: 0 where nothing is refused, else one of the numbers below, with its `place`. The rules of a call are
  * applied in the order given at the call, and the first that is broken is the answer. A refused call writes no byte of an output, and
- * hands a state back as it was given. Fields of an answer that do not apply are 0 and mean nothing. */
+ * hands a state back as it was given. Fields of an answer that do not apply are 0 and mean nothing.
+ *
+ * A sheet is of version 1 or 2. In version 1 the tasks stand by their numbers, and each names its core. In version 2 they stand core by
+ * core, each core by priority, for printing: a task has its number of version 1, its old number, where version 1 names the core, and a core
+ * has its task count. Calls that take a sheet take both, and tasks go by their old numbers; only the places of a refused sheet of version 2
+ * go by position. homvaits_move turns one into the other. */
 #ifndef HOMVAITS_H
 #define HOMVAITS_H
 
@@ -20,15 +25,16 @@
 extern "C" {
 #endif
 
-#define HOMVAITS_SHEET_MAX 712u /* bytes of the longest sheet, and the least output of homvaits_plan */
+#define HOMVAITS_SHEET_MAX 712u /* bytes of the longest sheet, and the least output of homvaits_plan and homvaits_move */
 #define HOMVAITS_TEXT_MAX 8192u /* the least output of homvaits_list, enough for every listing */
 #define HOMVAITS_IDLE 255u      /* homvaits_ticked.task where no task was pending */
 
-/* Refusals, with what `place` is: "task" is a task number, "core" is 64 plus a core number. */
+/* Refusals, with what `place` is: "task" is a task number (in a refused sheet of version 2 the task's position), "core" is 64 plus a core
+ * number. */
 typedef enum homvaits_refusal {
     HOMVAITS_STUB = 1,      /* under 8 bytes; 0 */
     HOMVAITS_MARK = 2,      /* the bytes do not begin with T S H; 0 */
-    HOMVAITS_VERSION = 3,   /* the version is not 1; 0 */
+    HOMVAITS_VERSION = 3,   /* the version is not 1 or 2; 0 */
     HOMVAITS_COUNT = 4,     /* over 64 tasks or jobs, over 8 cores, or a core limit above 8; 0 */
     HOMVAITS_LENGTH = 5,    /* not the length that the counts give, or a job list that is no multiple of 4; 0 */
     HOMVAITS_SPARE = 6,     /* a spare byte is not zero; the byte's offset */
@@ -47,7 +53,8 @@ typedef enum homvaits_refusal {
     HOMVAITS_LATE = 19,     /* the task's last job is still pending; task */
     HOMVAITS_QUIET = 20,    /* the task has no pending job; task */
     HOMVAITS_FOREIGN = 21,  /* the state breaks the form of a state: it is damaged; 0 */
-    HOMVAITS_START = 22     /* the start is no position in the ring; 0 */
+    HOMVAITS_START = 22,    /* the start is no position in the ring; 0 */
+    HOMVAITS_ORDER = 23     /* a sheet of version 2 is not in order; 0 */
 } homvaits_refusal;
 
 /* A task of a running core. */
@@ -107,12 +114,21 @@ typedef struct homvaits_margined {
     int32_t margin; /* ticks to spare; below zero: some job of the list can be late */
 } homvaits_margined;
 
-/* Checks a sheet. Accepted: it is a sheet and every core fits; the answer has its counts.
+typedef struct homvaits_moved {
+    uint8_t refusal;
+    uint16_t place;
+    uint16_t length; /* of the sheet, which stands at the front of the output */
+} homvaits_moved;
+
+/* Checks a sheet of either version. Accepted: it is a sheet and every core fits; the answer has its counts.
  *
  * Refusals, in this order; each rule is looked at in all of the sheet before the next one:
- *   1 STUB, 2 MARK, 3 VERSION, 4 COUNT, 5 LENGTH   place 0: these bytes are no sheet of version 1
+ *   1 STUB, 2 MARK, 3 VERSION, 4 COUNT, 5 LENGTH   place 0: these bytes are no sheet of version 1 or 2
  *   6 SPARE                                        the offset of the first spare byte that is not zero
- *   7 PERIOD, 8 BUDGET, 9 CORE                     the task whose record is out of range
+ *   7 PERIOD, 8 BUDGET                             the task whose record is out of range
+ *   23 ORDER (version 2)                           place 0: of n tasks the old numbers are not each of 0 to n - 1 once, the counts do not
+ *                                                  add up to n, or a core's tasks are out of priority order
+ *   9 CORE (version 1)                             the task whose core is not there
  *   10 BARE                                        64 + core
  *   11 FACTOR                                      the task of a bad factor, else 64 + the core of a bad pivot or divisor
  *   12 STRETCH                                     the task
@@ -123,7 +139,8 @@ homvaits_checked homvaits_check(const uint8_t *sheet, size_t len);
 
 /* Plans a job list: 4 bytes a job, its period and its budget, low byte first. A job's place in the list, from 0, is its task number.
  * At most `limit` cores are used (0 to 8), and the ring of the jobs is walked from position `start`; other starts may find other plans.
- * The sheet is written to the front of `out`, and the bytes past it stay as they were. homvaits_check accepts every sheet written here.
+ * The sheet, of version 1, is written to the front of `out`, and the bytes past it stay as they were. homvaits_check accepts every sheet
+ * written here.
  *
  * Refusals, in this order:
  *   5 LENGTH    place 0: `len` is no multiple of 4
@@ -138,7 +155,9 @@ homvaits_planned homvaits_plan(const uint8_t *jobs, size_t len, uint64_t limit, 
 /* Starts core number `core` of a sheet: its tasks, any of which may be released at once. A core started from an accepted sheet ends
  * every job on time, that is within the ticks that the listing calls `within`, whatever is released, finished and ticked.
  *
- * Refusals: 1 to 14 as homvaits_check gives them, then
+ * The state is the same from a sheet of version 1 and from its sheet of version 2.
+ *
+ * Refusals: those of homvaits_check, then
  *   9 CORE    place 0: the sheet has no core of this number
  * A refused start hands out a core without tasks, whose ticks are all idle. */
 homvaits_step homvaits_start(const uint8_t *sheet, size_t len, uint64_t core);
@@ -180,8 +199,9 @@ homvaits_step homvaits_finish(homvaits_core core, uint64_t task);
  *   21 FOREIGN    place 0: the state is damaged; start the core again */
 homvaits_ticked homvaits_tick(homvaits_core core);
 
-/* Writes the listing of any bytes to the front of `out`, as text; the bytes past it stay as they were. A refused sheet has a listing
- * too, one line such as `refused 14 place 64`, and that is no refusal of this call.
+/* Writes the listing of any bytes to the front of `out`, as text; the bytes past it stay as they were. That of a version 2 sheet is that
+ * of its version 1 sheet but for the version. A refused sheet has a listing too, one line such as `refused 14 place 64`, and that is no
+ * refusal of this call.
  *
  * Refusal:
  *   16 TIGHT    place 0: `out_len` is below HOMVAITS_TEXT_MAX */
@@ -204,6 +224,13 @@ homvaits_listed homvaits_list(const uint8_t *sheet, size_t len, uint8_t *out, si
  *   8 BUDGET       the task: its budget is 0 or above its period
  *   17 UNLISTED    place 0: `task` is not below the number of jobs */
 homvaits_margined homvaits_margin(const uint8_t *jobs, size_t len, uint64_t task);
+
+/* Moves a sheet to the other version, 1 to 2 or 2 to 1. The moved sheet is written to the front of `out`, and the bytes past it stay as
+ * they were. It has the same tasks and cores, homvaits_check accepts it, and moving it back gives the same bytes.
+ *
+ * Refusals: those of homvaits_check, then
+ *   16 TIGHT    place 0: `out_len` is below HOMVAITS_SHEET_MAX */
+homvaits_moved homvaits_move(const uint8_t *sheet, size_t len, uint8_t *out, size_t out_len);
 
 #ifdef __cplusplus
 }

@@ -1,5 +1,5 @@
 #!/usr/bin/env bash
-# The programs list, plan and margins, and run-example: what they print on standard output and standard error, and their exit status.
+# The programs list, plan, margins and move, and run-example: what they print on standard output and standard error, and their exit status.
 # Stored and written here is what the rules of sheets and plans give, and for the programs' own messages what docs/DECISIONS.md says.
 set -euo pipefail
 cd "$(dirname "$0")/.."
@@ -28,6 +28,15 @@ sheet_b() {
     printf '\7\0\1\0\0\0\2\0\0\0'
     printf "\\15\\0\\$1\\0\\0\\$3\\$2\\0\\0\\0"
     printf '\3\0\0\0\1\0\0\0'
+}
+
+# Tasks (9,7), (8,2), (5,1), (4,1), (8,1) on cores 1, 0, 1, 0, 0, as a printf format: in version 1, and in version 2, where they stand as
+# 3, 1, 4 and 2, 0, with these old numbers at positions 1, 2 and 4 and this count of core 1, each in octal.
+by_number='TSH\1\0\5\2\0\11\0\7\0\1\0\2\0\0\0\10\0\2\0\0\0\2\0\0\0\5\0\1\0\1\0\1\0\0\0\4\0\1\0\0\0\1\0\0\0\10\0\1\0\0\0\2\0\0\0'
+by_number+='\4\0\0\0\1\0\0\0\11\0\0\0\2\0\0\0'
+by_core() {
+    echo -n 'TSH\2\0\5\2\0\4\0\1\0\3\0\1\0\0\0\10\0\2\0\'"$1"'\0\2\0\0\0\10\0\1\0\'"$2"'\0\2\0\0\0\5\0\1\0\2\0\1\0\0\0\11\0\7\0\'"$3"'\0\2\0\0\0'
+    echo -n '\4\0\3\0\1\0\0\0\11\0\'"$4"'\0\2\0\0\0'
 }
 
 # So many bytes that look random; the first is c6.
@@ -112,6 +121,24 @@ try 'list of 2,000 bytes' 0 'refused 2 place 0\n' '' $list < <(noise 2000)
 try 'list of 2,000 bytes with a mark' 0 'refused 3 place 0\n' '' $list < <(printf 'TSH'; noise 1997)
 try 'list of 2,000 bytes with a header' 0 'refused 5 place 0\n' '' $list < <(printf 'TSH\1\0\100\10\0'; noise 1992)
 try 'list to a full device' 0 '' 'standard output: No space left on device\n' sh -c "$list > /dev/full" < <(sheet_b 6 4 0)
+
+# list: a sheet of version 2 by the old numbers, and each reason for 23: a number twice, a count, equal periods in the wrong order.
+listing='tasks 5 cores 2
+task 0 core 1 period 9 budget 7 factor 2 within 9
+task 1 core 0 period 8 budget 2 factor 2 within 8
+task 2 core 1 period 5 budget 1 factor 1 within 4
+task 3 core 0 period 4 budget 1 factor 1 within 4
+task 4 core 0 period 8 budget 1 factor 2 within 8
+core 0 pivot 4 divisor 1 load 625
+core 1 pivot 9 divisor 2 load 1000
+'
+try 'list of two cores' 0 "TSH 1 $listing" '' $list < <(printf "$by_number")
+try 'list of version 2' 0 "TSH 2 $listing" '' $list < <(printf "$(by_core 1 4 0 2)")
+try 'list of an empty sheet of version 2' 0 'TSH 2 tasks 0 cores 0\n' '' $list < <(printf 'TSH\2\0\0\0\0')
+try 'list of a number twice' 0 'refused 23 place 0\n' '' $list < <(printf "$(by_core 1 4 2 2)")
+try 'list of counts that do not add up' 0 'refused 23 place 0\n' '' $list < <(printf "$(by_core 1 4 0 3)")
+try 'list of equal periods in the wrong order' 0 'refused 23 place 0\n' '' $list < <(printf "$(by_core 4 1 0 2)")
+try 'list of version 3' 0 'refused 3 place 0\n' '' $list < <(printf 'TSH\3\0\0\0\0')
 
 # list: arguments, at which nothing is read, and input that cannot be read.
 for word in --help SHEET ''; do
@@ -222,4 +249,40 @@ try 'margins of a directory' 0 '' 'standard input: Is a directory\n' $margins < 
 try 'margins of a closed input' 0 '' 'standard input: Bad file descriptor\n' sh -c "$margins <&-"
 try 'margins of an input that breaks off' 0 '' 'standard input: Input/output error\n' broken $margins
 try 'margins to a full device' 0 '' 'standard output: No space left on device\n' sh -c "$margins > /dev/full" < examples/full-core.jobs
+
+# move: to version 2 and back.
+rt check move > "$room/log" 2>&1 || { cat "$room/log"; exit 1; }
+move=target/bin/move
+try 'move of version 1' 0 "$(by_core 1 4 0 2)" '' $move < <(printf "$by_number")
+try 'move of version 2' 0 "$by_number" '' $move < <(printf "$(by_core 1 4 0 2)")
+try 'move of card B' 0 'TSH\2\0\3\1\0\3\0\1\0\0\0\1\0\0\0\7\0\1\0\1\0\2\0\0\0\15\0\6\0\2\0\4\0\0\0\3\0\3\0\1\0\0\0' '' $move < <(sheet_b 6 4 0)
+try 'move of an empty sheet' 0 'TSH\2\0\0\0\0' '' $move < <(printf 'TSH\1\0\0\0\0')
+try 'move of an empty sheet of version 2' 0 'TSH\1\0\0\0\0' '' $move < <(printf 'TSH\2\0\0\0\0')
+$move < "$room/longest" > "$room/moved"
+try 'move and list of the longest sheet' 0 "${longest/TSH 1/TSH 2}\n" '' $list < "$room/moved"
+try 'move of the longest sheet and back' 0 '' '' cmp "$room/longest" <($move < "$room/moved")
+try 'move and list of a plan' 0 "TSH 2 ${one_task#TSH 1 } 2 budget 1 factor 1 within 2\ncore 0 pivot 2 divisor 1 load 500\n" '' \
+    $list < <(echo '2 1' | $plan | $move)
+
+# move: refused sheets, of which nothing is written.
+try 'move of card C' 0 '' 'refused 14 place 64\n' $move < <(sheet_b 7 4 0)
+try 'move of card D' 0 '' 'refused 12 place 2\n' $move < <(sheet_b 6 5 0)
+try 'move of a number twice' 0 '' 'refused 23 place 0\n' $move < <(printf "$(by_core 1 4 2 2)")
+try 'move of counts that do not add up' 0 '' 'refused 23 place 0\n' $move < <(printf "$(by_core 1 4 0 3)")
+try 'move of equal periods in the wrong order' 0 '' 'refused 23 place 0\n' $move < <(printf "$(by_core 4 1 0 2)")
+try 'move of version 3' 0 '' 'refused 3 place 0\n' $move < <(printf 'TSH\3\0\0\0\0')
+try 'move of nothing' 0 '' 'refused 1 place 0\n' $move < /dev/null
+try 'move of a spare byte in use' 0 '' 'refused 6 place 33\n' $move < <(sheet_b 6 4 1)
+try 'move of a byte too many' 0 '' 'refused 5 place 0\n' $move < <(sheet_b 6 4 0; printf '\0')
+try 'move of 713 bytes' 0 '' 'refused 5 place 0\n' $move < <(cat "$room/longest"; printf '\0')
+try 'move of 2,000 bytes' 0 '' 'refused 2 place 0\n' $move < <(noise 2000)
+
+# move: arguments, at which nothing is read, and input and output that fail.
+for word in --help SHEET ''; do
+    try "move '$word'" 0 'left\n' 'usage: move < SHEET > MOVED\n' sh -c "$move '$word'; cat" < <(echo left)
+done
+try 'move of a directory' 0 '' 'standard input: Is a directory\n' $move < examples
+try 'move of a closed input' 0 '' 'standard input: Bad file descriptor\n' sh -c "$move <&-"
+try 'move of an input that breaks off' 0 '' 'standard input: Input/output error\n' broken $move
+try 'move to a full device' 0 '' 'standard output: No space left on device\n' sh -c "$move > /dev/full" < <(sheet_b 6 4 0)
 echo "programs: $cases cases"

@@ -13,16 +13,17 @@ fn main() {
         argument.parse().expect("the argument is a number: seed")
     });
     let mut rng = Rng::new(seed);
-    check(&mut rng);
+    let sheets = workload::sheets(&mut rng, 100_000);
+    check(&sheets);
     plan(&mut rng);
     tick();
     margin(&mut rng);
+    versions(&sheets);
 }
 
-fn check(rng: &mut Rng) {
-    let sheets = workload::sheets(rng, 100_000);
+fn check(sheets: &[Vec<u8>]) {
     let mut accepted = 0;
-    for sheet in &sheets {
+    for sheet in sheets {
         let answer = plain::check(sheet);
         assert_eq!(answer, binding::check(sheet), "they differ on a sheet");
         assert_eq!(answer, reference::check(sheet), "they differ on a sheet");
@@ -35,7 +36,7 @@ fn check(rng: &mut Rng) {
         bytes / sheets.len()
     );
     let run = |call: fn(&[u8]) -> reference::CheckAnswer| {
-        for sheet in &sheets {
+        for sheet in sheets {
             black_box(call(black_box(sheet)));
         }
     };
@@ -117,6 +118,46 @@ fn margin(rng: &mut Rng) {
         }
     };
     compare(lists.len(), || run(plain::margin), || run(binding::margin));
+}
+
+/// The accepted sheets and the same in version 2: checked, and moved to each
+/// other.
+fn versions(sheets: &[Vec<u8>]) {
+    let (first, second) = workload::both_versions(sheets);
+    for (sheet, moved) in first.iter().zip(&second) {
+        for (from, to) in [(sheet, moved), (moved, sheet)] {
+            let answer = plain::check(from);
+            assert_eq!(answer, binding::check(from), "they differ on a sheet");
+            for call in [plain::move_sheet, binding::move_sheet] {
+                let mut out = [0; 712];
+                let length = call(from, &mut out).length as usize;
+                assert_eq!(&out[..length], &to[..], "they differ on a move");
+            }
+        }
+    }
+    type Move = fn(&[u8], &mut [u8]) -> reference::MoveAnswer;
+    for (version, sheets) in [(1, &first), (2, &second)] {
+        let check = |call: fn(&[u8]) -> reference::CheckAnswer| {
+            for sheet in sheets {
+                black_box(call(black_box(sheet)));
+            }
+        };
+        let move_all = |call: Move| {
+            let mut out = [0; 712];
+            for sheet in sheets {
+                black_box(call(black_box(sheet), &mut out));
+            }
+        };
+        let count = sheets.len();
+        println!("check of the {count} accepted ones, of version {version}:");
+        compare(count, || check(plain::check), || check(binding::check));
+        println!("move of them, from version {version}:");
+        compare(
+            count,
+            || move_all(plain::move_sheet),
+            || move_all(binding::move_sheet),
+        );
+    }
 }
 
 /// Print the best time of each side for one call, and their ratio.

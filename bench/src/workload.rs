@@ -28,6 +28,18 @@ pub fn sheets(rng: &mut Rng, count: usize) -> Vec<Vec<u8>> {
     (0..count).map(|_| sheet(rng)).collect()
 }
 
+/// The accepted ones of version 1 among the sheets, and the same in version 2.
+pub fn both_versions(sheets: &[Vec<u8>]) -> (Vec<Vec<u8>>, Vec<Vec<u8>>) {
+    let both = |sheet: &Vec<u8>| {
+        let mut out = [0; 712];
+        let answer = reference::move_sheet(sheet, &mut out);
+        let moved = out[..answer.length as usize].to_vec();
+        let first = answer.refusal == 0 && reference::version(sheet) == 1;
+        first.then(|| (sheet.clone(), moved))
+    };
+    sheets.iter().filter_map(both).unzip()
+}
+
 /// So many lists of 64 jobs whose plans have all 8 cores.
 pub fn full_lists(rng: &mut Rng, count: usize) -> Vec<Vec<u8>> {
     let mut lists = Vec::new();

@@ -13,6 +13,48 @@ fn check() {
     }
 }
 
+/// Accepted and damaged sheets of both versions.
+fn sheets_of_both(rng: &mut Rng) -> Vec<Vec<u8>> {
+    let mut sheets = workload::sheets(rng, 5000);
+    let (_, grouped) = workload::both_versions(&sheets);
+    for sheet in &grouped {
+        let kind = rng.index(GROUPED_DAMAGES);
+        sheets.push(damaged_grouped(rng, sheet, kind));
+    }
+    sheets.extend(grouped);
+    for length in 0..=800 {
+        sheets.push(likely_grouped(rng));
+        sheets.push(random_grouped(rng, length));
+        let likely = likely_sheet(rng);
+        sheets.extend(regrouped(&likely));
+        let kind = rng.index(SHEET_DAMAGES);
+        let damaged = handmade_sheet(rng);
+        let damaged = damaged_sheet(rng, &damaged, kind);
+        sheets.extend(regrouped(&damaged));
+    }
+    sheets
+}
+
+type Move = fn(&[u8], &mut [u8]) -> reference::MoveAnswer;
+
+#[test]
+fn versions() {
+    let mut rng = Rng::new(5);
+    for sheet in sheets_of_both(&mut rng) {
+        let expected = reference::check(&sheet);
+        assert_eq!(plain::check(&sheet), expected);
+        assert_eq!(binding::check(&sheet), expected);
+        let room = rng.pick(&[0, 711, 712, 712, 712, 800]);
+        let run = |call: Move| {
+            let mut out = vec![165; room];
+            (call(&sheet, &mut out), out)
+        };
+        let expected = run(reference::move_sheet);
+        assert_eq!(run(plain::move_sheet), expected);
+        assert_eq!(run(binding::move_sheet), expected);
+    }
+}
+
 type Plan = fn(&[u8], u64, u64, &mut [u8]) -> reference::PlanAnswer;
 
 #[test]

@@ -14,7 +14,8 @@ enum { SIZE = 1 << 16, PAINT = 0xa5, BOUND = 8192, JOBS = 64 };
 void nothing(void);
 __asm__(".globl nothing\nnothing: mov %rdi, %rax\n ret\n.section .note.GNU-stack,\"\"\n.text");
 
-#define CALLS(X) X(check, 0) X(plan, 0) X(start, 0) X(start_list, 0) X(release, 1) X(finish, 1) X(tick, 1) X(list, 0) X(margin, 0)
+#define CALLS(X) \
+    X(check, 0) X(plan, 0) X(start, 0) X(start_list, 0) X(release, 1) X(finish, 1) X(tick, 1) X(list, 0) X(margin, 0) X(move, 0)
 
 /* Called through these, so that a caller's frame is the same whatever stands there. */
 #define POINTER(name, by_value) static __typeof__(homvaits_##name) *volatile name = homvaits_##name;
@@ -22,13 +23,15 @@ CALLS(POINTER)
 
 static _Alignas(16) uint8_t stack[SIZE];
 static ucontext_t here, there;
-static uint8_t jobs[4 * JOBS], good[HOMVAITS_SHEET_MAX], sheet[HOMVAITS_SHEET_MAX], text[HOMVAITS_TEXT_MAX];
+static uint8_t jobs[4 * JOBS], good[HOMVAITS_SHEET_MAX], grouped[HOMVAITS_SHEET_MAX], sheet[HOMVAITS_SHEET_MAX];
+static uint8_t out[HOMVAITS_SHEET_MAX], text[HOMVAITS_TEXT_MAX];
 static homvaits_checked checked;
 static homvaits_planned planned;
 static homvaits_step step;
 static homvaits_ticked ticked;
 static homvaits_listed listed;
 static homvaits_margined margined;
+static homvaits_moved moved;
 static homvaits_core fresh, busy;
 
 static void run_check(void) { checked = check(sheet, sizeof sheet); }
@@ -40,6 +43,7 @@ static void run_finish(void) { step = finish(busy, JOBS - 1); }
 static void run_tick(void) { ticked = tick(busy); }
 static void run_list(void) { listed = list(sheet, sizeof sheet, text, sizeof text); }
 static void run_margin(void) { margined = margin(jobs, sizeof jobs, JOBS - 1); }
+static void run_move(void) { moved = move(sheet, sizeof sheet, out, sizeof out); }
 
 static size_t depth(void (*run)(void)) {
     memset(stack, PAINT, SIZE);
@@ -54,14 +58,17 @@ static size_t depth(void (*run)(void)) {
     return SIZE - at;
 }
 
-/* The deeper one of a run with the planned sheet, and of one where the factor of its last task is 256 more (Stretch). */
+/* The deepest of a run with the planned sheet, of one with its moved sheet, and of those where the factor of the last task is 256 more
+ * (Stretch). */
 static size_t deepest(void (*run)(void)) {
-    memcpy(sheet, good, sizeof sheet);
-    size_t accepted = depth(run);
-    memcpy(sheet, good, sizeof sheet);
-    sheet[8 + 10 * JOBS - 3] += 1;
-    size_t refused = depth(run);
-    return accepted < refused ? refused : accepted;
+    size_t most = 0;
+    for (int i = 0; i < 4; i++) {
+        memcpy(sheet, i < 2 ? good : grouped, sizeof sheet);
+        sheet[8 + 10 * JOBS - 3] += i % 2;
+        size_t used = depth(run);
+        if (most < used) most = used;
+    }
+    return most;
 }
 
 static int report(const char *name, size_t used) {
@@ -79,6 +86,8 @@ int main(void) {
     }
     planned = homvaits_plan(jobs, sizeof jobs, 8, 0, good, sizeof good);
     assert(planned.refusal == 0 && planned.length == sizeof good);
+    moved = homvaits_move(good, sizeof good, grouped, sizeof grouped);
+    assert(moved.refusal == 0 && moved.length == sizeof grouped);
     fresh = homvaits_start_list(jobs, sizeof jobs).core;
     busy = homvaits_release(fresh, JOBS - 1).core;
     assert(busy.count == JOBS && busy.tasks[JOBS - 1].left > 0);

@@ -56,6 +56,11 @@ FIELD(margined, refusal, 0, 1);
 FIELD(margined, place, 2, 2);
 FIELD(margined, margin, 4, 4);
 
+SIZE(moved, 6);
+FIELD(moved, refusal, 0, 1);
+FIELD(moved, place, 2, 2);
+FIELD(moved, length, 4, 2);
+
 #ifdef __cplusplus
 #define LANGUAGE "C++"
 #else
@@ -94,7 +99,9 @@ static const uint8_t full[46] = {
 /* That sheet with one byte changed, and what the checker says of it. */
 static const struct { size_t at; uint8_t byte; uint8_t refusal; uint16_t place; } changes[] = {
     {0, 't', HOMVAITS_MARK, 0},
-    {3, 2, HOMVAITS_VERSION, 0},
+    {3, 3, HOMVAITS_VERSION, 0},
+    {4, 1, HOMVAITS_VERSION, 0},
+    {3, 2, HOMVAITS_ORDER, 0},
     {5, 65, HOMVAITS_COUNT, 0},
     {6, 9, HOMVAITS_COUNT, 0},
     {5, 4, HOMVAITS_LENGTH, 0},
@@ -208,11 +215,95 @@ static void margins(void) {
     assert(margined_as(homvaits_margin(list, 256, 63), 0, 0, -7559874));
 }
 
+/* Five tasks on two cores in both versions. By core and priority they are 3, 1, 4 and 2, 0; the periods of 1 and 4 are equal. */
+static const uint8_t by_number[74] = {
+    'T', 'S', 'H', 1, 0, 5, 2, 0,
+    9, 0, 7, 0, 1, 0, 2, 0, 0, 0,
+    8, 0, 2, 0, 0, 0, 2, 0, 0, 0,
+    5, 0, 1, 0, 1, 0, 1, 0, 0, 0,
+    4, 0, 1, 0, 0, 0, 1, 0, 0, 0,
+    8, 0, 1, 0, 0, 0, 2, 0, 0, 0,
+    4, 0, 0, 0, 1, 0, 0, 0,
+    9, 0, 0, 0, 2, 0, 0, 0,
+};
+static const uint8_t by_core[74] = {
+    'T', 'S', 'H', 2, 0, 5, 2, 0,
+    4, 0, 1, 0, 3, 0, 1, 0, 0, 0,
+    8, 0, 2, 0, 1, 0, 2, 0, 0, 0,
+    8, 0, 1, 0, 4, 0, 2, 0, 0, 0,
+    5, 0, 1, 0, 2, 0, 1, 0, 0, 0,
+    9, 0, 7, 0, 0, 0, 2, 0, 0, 0,
+    4, 0, 3, 0, 1, 0, 0, 0,
+    9, 0, 2, 0, 2, 0, 0, 0,
+};
+
+/* The sheet by core with bytes changed: of no more than three places. */
+static const struct { size_t at[3]; uint8_t byte[3]; uint8_t refusal; uint16_t place; } order_changes[] = {
+    {{52}, {2}, HOMVAITS_ORDER, 0},                      /* a number twice */
+    {{52}, {5}, HOMVAITS_ORDER, 0},                      /* a number too high */
+    {{68}, {3}, HOMVAITS_ORDER, 0},                      /* counts that do not add up */
+    {{60, 68}, {131, 130}, HOMVAITS_ORDER, 0},           /* counts that add up in eight bits only */
+    {{22, 32}, {4, 1}, HOMVAITS_ORDER, 0},               /* equal periods, the higher number first */
+    {{8}, {9}, HOMVAITS_ORDER, 0},                       /* a longer period first */
+    {{22, 32, 50}, {4, 1, 0}, HOMVAITS_BUDGET, 4},       /* and a budget of 0, which comes before the order */
+    {{22, 32, 54}, {4, 1, 0}, HOMVAITS_ORDER, 0},        /* and a factor of 0, which comes after it */
+    {{61}, {1}, HOMVAITS_SPARE, 61},
+    {{34, 54}, {4, 4}, HOMVAITS_STRETCH, 2},             /* by position: these are tasks 4 and 0 */
+    {{34}, {1}, HOMVAITS_CHAIN, 2},
+    {{50}, {8}, HOMVAITS_OVERLOAD, 65},
+};
+
+static int moved_as(homvaits_moved moved, unsigned refusal, unsigned place, unsigned length) {
+    return moved.refusal == refusal && moved.place == place && moved.length == length;
+}
+
+static void moves(void) {
+    uint8_t out[HOMVAITS_SHEET_MAX + 8], sheet[74], text[HOMVAITS_TEXT_MAX], other[HOMVAITS_TEXT_MAX];
+    memset(out, 170, sizeof out);
+    assert(moved_as(homvaits_move(by_number, sizeof by_number, out, HOMVAITS_SHEET_MAX - 1), HOMVAITS_TIGHT, 0, 0));
+    assert(moved_as(homvaits_move(by_number, 7, out, 0), HOMVAITS_STUB, 0, 0));
+    for (size_t i = 0; i < sizeof order_changes / sizeof order_changes[0]; i++) {
+        memcpy(sheet, by_core, sizeof sheet);
+        for (int k = 0; k < 3; k++)
+            if (order_changes[i].at[k] > 0) sheet[order_changes[i].at[k]] = order_changes[i].byte[k];
+        homvaits_checked checked = homvaits_check(sheet, sizeof sheet);
+        assert(checked.refusal == order_changes[i].refusal && checked.place == order_changes[i].place);
+        /* whatever the output */
+        assert(moved_as(homvaits_move(sheet, sizeof sheet, out, sizeof out), checked.refusal, checked.place, 0));
+        assert(moved_as(homvaits_move(sheet, sizeof sheet, out, 0), checked.refusal, checked.place, 0));
+        homvaits_step step = homvaits_start(sheet, sizeof sheet, 0);
+        assert(step.refusal == checked.refusal && step.place == checked.place && step.core.count == 0);
+    }
+    for (size_t i = 0; i < sizeof out; i++) assert(out[i] == 170);
+
+    assert(moved_as(homvaits_move(by_number, sizeof by_number, out, HOMVAITS_SHEET_MAX), 0, 0, sizeof by_core));
+    assert(memcmp(out, by_core, sizeof by_core) == 0);
+    for (size_t i = sizeof by_core; i < sizeof out; i++) assert(out[i] == 170);
+    assert(moved_as(homvaits_move(by_core, sizeof by_core, out, sizeof out), 0, 0, sizeof by_number));
+    assert(memcmp(out, by_number, sizeof by_number) == 0);
+    for (size_t i = sizeof by_number; i < sizeof out; i++) assert(out[i] == 170);
+
+    /* starts and listings go by the old numbers */
+    for (uint64_t core = 0; core < 3; core++) {
+        homvaits_step one = homvaits_start(by_number, sizeof by_number, core), two = homvaits_start(by_core, sizeof by_core, core);
+        assert(one.refusal == two.refusal && one.place == two.place && same_core(&one.core, &two.core));
+        assert(core < 2 ? one.refusal == 0 : one.refusal == HOMVAITS_CORE && one.place == 0);
+    }
+    homvaits_core second = homvaits_start(by_core, sizeof by_core, 1).core;
+    assert(second.count == 2 && second.tasks[0].number == 2 && second.tasks[1].number == 0);
+    homvaits_listed one = homvaits_list(by_number, sizeof by_number, text, sizeof text);
+    homvaits_listed two = homvaits_list(by_core, sizeof by_core, other, sizeof other);
+    assert(one.refusal == 0 && two.refusal == 0 && one.length == two.length && text[4] == '1' && other[4] == '2');
+    text[4] = '2';
+    assert(memcmp(text, other, one.length) == 0);
+}
+
 int main(void) {
     check_refusals();
     plan_refusals();
     list_refusals();
     margins();
+    moves();
 
     const unsigned jobs[2][2] = {{5, 1}, {9, 7}};
     uint8_t list[8], sheet[HOMVAITS_SHEET_MAX], text[HOMVAITS_TEXT_MAX];

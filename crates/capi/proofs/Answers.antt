@@ -25,6 +25,9 @@ use Rattle.planner.specs.Plan as plan
 use Rattle.listing.specs.declared.Listed.{Listed}
 use Rattle.listing.specs.declared.Listed.the-variants as lists
 use Rattle.listing.specs.Answers as list
+use Rattle.mover.specs.declared.Moved.{Moved}
+use Rattle.mover.specs.declared.Moved.the-variants as moves
+use Rattle.mover.specs.Answers as move
 use Rattle.margin.specs.declared.Slack.{Slack}
 use Rattle.margin.specs.declared.Slack.the-variants as slacks
 use Rattle.margin.specs.Answers as margin
@@ -37,7 +40,7 @@ use Rattle.dispatcher.specs.Operations.{answerOf}
 use Rattle.dispatcher.specs.Starts.{sheetAnswer}
 use Rattle.dispatcher.specs.OnTime.{Kept, Timely}
 use Rattle.capi.specs.declared.StepAnswer.{StepAnswer}
-use Rattle.capi.specs.Answers.{checkedOf, plannedOf, listedOf, steppedOf, tickedOf, marginedOf}
+use Rattle.capi.specs.Answers.{checkedOf, plannedOf, listedOf, steppedOf, tickedOf, marginedOf, movedOf}
 
 -- no refusal has the number 0
 pub positive : (w : Refusal) → 1 ≤ numberOf w
@@ -63,6 +66,7 @@ positive words.Late = lit≤ tt
 positive words.Quiet = lit≤ tt
 positive words.Foreign = lit≤ tt
 positive words.Start = lit≤ tt
+positive words.Order = lit≤ tt
 
 -- the checker's answer
 pub checked-accepted : (v : Verdict) (o : check.Outcome) (n c : ℕ) → check.outcomeOf v ≡ o → v ≡ verdicts.Accepted n c → record { refusal = 0; place = 0; tasks = n; cores = c } ≡ checkedOf o
@@ -87,6 +91,15 @@ plan-accepted v n c s out a h = rw h at a
 
 pub plan-refused : (w : Refusal) (k : ℕ) (x y : check.Outcome) → k ≡ numberOf w → k ≡ 0 → x ≡ y
 plan-refused w k x y e z = absurd (omega (arith, positive w))
+
+-- the mover's
+pub move-written : (v : Moved) (o : move.Answer) (n : ℕ) → move.answerOf v ≡ o → v ≡ moves.Written n → record { refusal = 0; place = 0; length = n } ≡ movedOf o
+unfolding movedOf
+move-written v o n e h = ap movedOf (sym (ap move.answerOf h) ∙ e)
+
+pub move-refused : (v : Moved) (o : move.Answer) (w : Refusal) (k p : ℕ) → move.answerOf v ≡ o → v ≡ moves.Refused w p → k ≡ numberOf w → record { refusal = k; place = p; length = 0 } ≡ movedOf o
+unfolding movedOf
+move-refused v o w k p e h q = rw q (ap movedOf (sym (ap move.answerOf h) ∙ e))
 
 -- the listing's
 pub listed-written : (v : Listed) (o : list.Answer) (n : ℕ) → list.answerOf v ≡ o → v ≡ lists.Written n → record { refusal = 0; place = 0; length = n } ≡ listedOf o

@@ -11,7 +11,8 @@ use Rattle.sheet.specs.Refusals.{numberOf}
 use Rattle.sheet.specs.Records.{taskCount}
 use Rattle.jobs.specs.Jobs.{jobCount}
 use Rattle.checker.specs.Verdict as check
-use Rattle.checker.proofs.Acceptance.{accepted-exactly, core-of}
+use Rattle.checker.proofs.Acceptance.{accepted-exactly}
+use Rattle.checker.proofs.Views.{views-fit, core-of}
 use Rattle.planner.specs.declared.Planned.{Planned}
 use Rattle.planner.specs.declared.Planned.the-variants as plans
 use Rattle.planner.specs.Plan as plan
@@ -46,7 +47,7 @@ runs-on-time v l out new limit start n c size e h o a =
       cores-same = sym cores;
       period = rw same (written-period l out limit start n c size w);
       budget = rw same (written-budget l out limit start n c size w);
-      core = λ i b. omega (arith, cores, good .fitting .tasks .core i (omega (arith, count)));
+      core = λ i b. omega (arith, cores, views-fit (take size new) (good .order) .0 (good .fitting) .tasks .core i (omega (arith, count)));
       start = λ k b. core-starts (take size new) n c k e′ b;
       kept = λ k b. core-on-time (take size new) n c k e′ b;
     }

@@ -5,11 +5,13 @@ use Rattle.checker.specs.Verdict as check
 use Rattle.planner.specs.Plan as plan
 use Rattle.listing.specs.Answers as list
 use Rattle.margin.specs.Answers as margin
+use Rattle.mover.specs.Answers as move
 use Rattle.timing.specs.Calls.{Answer, accepted, served, idle, refused}
 use Rattle.dispatcher.specs.declared.Core.{Core}
 use Rattle.capi.specs.declared.Checked.{Checked}
 use Rattle.capi.specs.declared.PlanAnswer.{PlanAnswer}
 use Rattle.capi.specs.declared.ListAnswer.{ListAnswer}
+use Rattle.capi.specs.declared.MoveAnswer.{MoveAnswer}
 use Rattle.capi.specs.declared.StepAnswer.{StepAnswer}
 use Rattle.capi.specs.declared.Ticked.{Ticked}
 use Rattle.capi.specs.declared.Margined.{Margined}
@@ -26,6 +28,11 @@ plannedOf (plan.refused k p) = record { refusal = k; place = p; tasks = 0; cores
 unfoldable pub listedOf : list.Answer → ListAnswer
 listedOf (list.written n) = record { refusal = 0; place = 0; length = n }
 listedOf (list.refused k p) = record { refusal = k; place = p; length = 0 }
+
+-- what the mover answers
+unfoldable pub movedOf : move.Answer → MoveAnswer
+movedOf (move.written n) = record { refusal = 0; place = 0; length = n }
+movedOf (move.refused k p) = record { refusal = k; place = p; length = 0 }
 
 -- what a start, a release or a finish answers, with the state that it hands back
 unfoldable pub steppedOf : Answer → Core → StepAnswer

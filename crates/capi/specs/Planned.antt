@@ -2,7 +2,8 @@
 use Prim.Native.Nat.{ℕ, _<_}
 use mathlib.Core.Path.{_≡_}
 use mathlib.Core.List.{List}
-use Rattle.sheet.specs.Records.{figures, taskCount, coreCount}
+use Rattle.sheet.specs.Records.{taskCount, coreCount}
+use Rattle.sheet.specs.Views.{figures}
 use Rattle.jobs.specs.Jobs.{jobCount, jobPeriod, jobBudget}
 use Rattle.checker.specs.Verdict.{verdict}
 use Rattle.timing.specs.Calls.{Call, accepted}

@@ -14,7 +14,9 @@ ghost use Rattle.dispatcher.specs.Starts.{sheetAnswer, sheetState, listAnswer, 
 ghost use Rattle.dispatcher.specs.OnTime.{Kept};
 ghost use Rattle.margin.specs.Answers.{marginAnswer};
 ghost use Rattle.margin.specs.Exact.{Exact};
-ghost use Rattle.capi.specs.Answers.{checkedOf, plannedOf, listedOf, steppedOf, tickedOf, marginedOf};
+ghost use Rattle.mover.specs.Answers.{moveAnswer, moveOutput};
+ghost use Rattle.capi.specs.Answers.{checkedOf, plannedOf, listedOf, steppedOf, tickedOf, marginedOf, movedOf};
+ghost use Rattle.capi.specs.Moved.{RunsAlike};
 ghost use Rattle.capi.specs.Planned.{RunsOnTime};
 use checker::Verdict;
 use dispatcher::Answer;
@@ -22,6 +24,7 @@ use dispatcher::Core;
 use dispatcher::Step;
 use listing::Listed;
 use margin::Slack;
+use mover::Moved;
 use planner::Planned;
 
 #[repr(C)]
@@ -43,6 +46,13 @@ pub struct PlanAnswer {
 
 #[repr(C)]
 pub struct ListAnswer {
+    pub refusal: u8,
+    pub place: u16,
+    pub length: u16,
+}
+
+#[repr(C)]
+pub struct MoveAnswer {
     pub refusal: u8,
     pub place: u16,
     pub length: u16,
@@ -251,6 +261,28 @@ pub extern "C" fn homvaits_margin(jobs: &[u8], number: u64) -> Margined
             refusal: sheet::number(word),
             place,
             margin: 0,
+        },
+    }
+}
+
+// The sheet that is written is accepted, starts and lists as the one that was given, and moved again it gives the same bytes.
+#[no_mangle]
+pub extern "C" fn homvaits_move(sheet: &[u8], out: &mut [u8]) -> MoveAnswer
+    ensures { λ r. ⌜ r ≡ movedOf (moveAnswer (verdict (now (sheet .entry))) (now (sheet .entry)) (length (now (out .entry)))) ⌝ }
+    ensures { λ _. ⌜ now (out .exit) ≡ moveOutput (verdict (now (sheet .entry))) (now (sheet .entry)) (now (out .entry)) ⌝ }
+    ensures runs_alike { λ r. ⌜ (r .refusal ≡ 0 → RunsAlike (now (sheet .entry)) (take (r .length) (now (out .exit)))) ⌝ }
+{
+    let answer = mover::move_sheet(sheet, out);
+    match answer {
+        Moved::Written(length) => MoveAnswer {
+            refusal: 0,
+            place: 0,
+            length,
+        },
+        Moved::Refused { word, place } => MoveAnswer {
+            refusal: sheet::number(word),
+            place,
+            length: 0,
         },
     }
 }

@@ -7,7 +7,8 @@ use mathlib.Core.Bool.{true}
 use mathlib.Core.List.{List, [], _∷_, _++_, map}
 use lib.IntN.{pos, negsuc}
 use Rattle.sheet.specs.Table.{scan}
-use Rattle.sheet.specs.Records.{Figures, figures}
+use Rattle.sheet.specs.Records.{Figures}
+use Rattle.sheet.specs.Views.{figures}
 use Rattle.fit.specs.declared.By.the-variants.{Ring}
 use Rattle.fit.specs.Lists.{numbers, at}
 use Rattle.fit.specs.Ring.{orderBy}

@@ -2,8 +2,8 @@
 -- Assumes nothing.
 use Prim.Native.Nat.{ℕ, _+_, _*_, _≤_, _<_, zero-le}
 use mathlib.Core.Path.{_≡_, refl, sym, _∙_}
-use mathlib.Core.Logic.{_↔_}
-use mathlib.Core.Bool.{Bool, true, false, true≢false}
+use mathlib.Core.Logic.{_↔_, _⊎_, inl, inr}
+use mathlib.Core.Bool.{Bool, true, false, _||_, true≢false}
 use mathlib.Core.Option.{Option, none, some, Option·some-ne-none}
 use mathlib.Core.List.{List, [], _∷_, _++_}
 use native.Mathlib.Omega.{arith}
@@ -13,7 +13,8 @@ use lib.ListN.{length, getD, drop}
 use lib.Dec.{ltb, eqb}
 use Rattle.sheet.specs.Table.{Row, _at_, scan, whole, core, Refused}
 use Rattle.sheet.specs.Ranges.{outOf, badPeriod, badBudget}
-use Rattle.sheet.specs.Records.{Figures, figures, taskCount, coreCount}
+use Rattle.sheet.specs.Records.{Figures, taskCount, coreCount}
+use Rattle.sheet.specs.Views.{version, isGrouped, positionedIn, byPosition}
 use Rattle.sheet.proofs.Ranges.{neither, in-range, range-in, both}
 use Rattle.sheet.proofs.Scans.{scan-clear, scan-clears, scan-skip, scan-second, scan-none, whole-clear, core-clear}
 use Rattle.fit.specs.Lists.{numbers, find, Each}
@@ -25,11 +26,12 @@ use Rattle.fit.proofs.Lists.{each-of, each-both}
 use Rattle.fit.proofs.Priority.{order-members, order-count, order-rising}
 use Rattle.fit.proofs.Levels.{chain-multiples, multiples-chain, multiples-pairs, level-load, budget-within, within-period}
 use Rattle.fit.specs.Cores.{orderOn}
-use Rattle.checker.specs.Tests.{isMarked, isSet, badCore, isNone, bare, badFactor, badPivot, stretchedAt, chainBreakOn, overloadedOn}
-use Rattle.checker.specs.Rules.{offset, frameRows, spareRows, taskRows, coreRows, fitRows, recordRows, rules}
+use Rattle.views.proofs.Grouped.{in-order, order-in}
+use Rattle.checker.specs.Tests.{isMarked, badVersion, isSet, badOrder, badCore, isNone, bare, badFactor, badPivot, stretchedAt, chainBreakOn, overloadedOn}
+use Rattle.checker.specs.Rules.{offset, frameRows, spareRows, taskRows, coreRows, fitRows, recordRows, partRows, rules}
 use Rattle.checker.proofs.Offsets.{task-all, task-each, core-all, core-each}
 use Rattle.checker.specs.Verdict.{accepted, outcome, verdict}
-use Rattle.checker.specs.Accepted.{LoadAtMostOne, Framed, SparesZero, TasksInRange, CoresInRange, CoresFit, Fitting, Acceptable, Schedulable, CoreOf}
+use Rattle.checker.specs.Accepted.{LoadAtMostOne, Framed, SparesZero, TasksInRange, CoresInRange, CoresFit, Fitting, OrderKept, Acceptable}
 
 -- a table is clear exactly when each of its rows is
 row-clear : (k : ℕ) (o : Option ℕ) (rows : List Row) → o ≡ none → scan rows ≡ none → scan (k at o ∷ rows) ≡ none
@@ -63,28 +65,32 @@ module _ (q : ℕ → Bool) (n : ℕ) where
   kept : find q (numbers 0 n) ≡ none → (i : ℕ) → i < n → q i ≡ false
   kept e i h = find-none q 0 n e i zero-le (rw zero-add h)
 
-  keeps : ((i : ℕ) → i < n → q i ≡ false) → find q (numbers 0 n) ≡ none
+  pub keeps : ((i : ℕ) → i < n → q i ≡ false) → find q (numbers 0 n) ≡ none
   keeps f = none-find q 0 n (λ i a b. f i (rw zero-add at b))
 
--- rules 7 to 9
-tasks-kept : (f : Figures) → none ≡ scan (taskRows f) → TasksInRange f
+-- rules 7 to 9 and 23
+tasks-kept : (out : Bool) (f : Figures) → none ≡ scan (taskRows out f) → (out ≡ false) × TasksInRange f
 unfolding taskRows badPeriod badBudget badCore
-tasks-kept f e =
+tasks-kept out f e =
     let a = scan-clear 7 _ _ e in
     let b = scan-clear 8 _ _ (a .1) in
-    let c = scan-clear 9 _ _ (b .1) in
-    record {
-      period = λ i h. in-range 60000 _ (kept (badPeriod (f .period)) _ (a .0) i h);
-      budget = λ i h. in-range (f .period i) _ (kept (badBudget (f .period) (f .budget)) _ (b .0) i h);
-      core = λ i h. leb-false _ _ (kept (badCore (f .cores) (f .core)) _ (c .0) i h);
-    }
+    let d = scan-clear 23 _ _ (b .1) in
+    let c = scan-clear 9 _ _ (d .1) in (
+      whole-clear _ (d .0),
+      record {
+        period = λ i h. in-range 60000 _ (kept (badPeriod (f .period)) _ (a .0) i h);
+        budget = λ i h. in-range (f .period i) _ (kept (badBudget (f .period) (f .budget)) _ (b .0) i h);
+        core = λ i h. leb-false _ _ (kept (badCore (f .cores) (f .core)) _ (c .0) i h);
+      },
+    )
 
-tasks-keep : (f : Figures) → TasksInRange f → scan (taskRows f) ≡ none
+tasks-keep : (out : Bool) (f : Figures) → out ≡ false → TasksInRange f → scan (taskRows out f) ≡ none
 unfolding taskRows badPeriod badBudget badCore
-tasks-keep f t =
+tasks-keep out f e t =
     row-clear 7 _ _ (keeps (badPeriod (f .period)) _ (λ i h. range-in 60000 _ (t .period i h .0) (t .period i h .1)))
     (row-clear 8 _ _ (keeps (badBudget (f .period) (f .budget)) _ (λ i h. range-in (f .period i) _ (t .budget i h .0) (t .budget i h .1)))
-    (row-clear 9 _ _ (keeps (badCore (f .cores) (f .core)) _ (λ i h. lt-leb _ _ (t .core i h))) end-clear))
+    (row-clear 23 _ _ (whole-none _ e)
+    (row-clear 9 _ _ (keeps (badCore (f .cores) (f .core)) _ (λ i h. lt-leb _ _ (t .core i h))) end-clear)))
 
 -- rule 10: a core has a task exactly when it is not bare
 not-bare : (n : ℕ) (on : ℕ → ℕ) (k : ℕ) → bare n on k ≡ false → (i : ℕ) × (i < n) × (on i ≡ k)
@@ -163,6 +169,20 @@ spared r l e = each-of l (is-zero r) (none-exactly (isSet r) l .0 e)
 spares-none : (r l : List ℕ) → Each (λ x. getD r x 0 ≡ 0) l → find (isSet r) l ≡ none
 spares-none r l h = none-exactly (isSet r) l .1 (each-of l (not-set r) h)
 
+-- rule 3
+versioned : (s : List ℕ) → badVersion s ≡ false → (version s ≡ 1) ⊎ (version s ≡ 2)
+unfolding badVersion
+versioned s e = by (eqb (version s) 1) refl (not-false _ e)
+  where
+    by : (b : Bool) → eqb (version s) 1 ≡ b → (b || isGrouped s) ≡ true → (version s ≡ 1) ⊎ (version s ≡ 2)
+    by true t h = inl (eqb-true _ _ t)
+    by false t h = inr (eqb-true _ _ h)
+
+version-good : (s : List ℕ) → (version s ≡ 1) ⊎ (version s ≡ 2) → badVersion s ≡ false
+unfolding badVersion
+version-good s (inl e) = rw e
+version-good s (inr e) = rw e
+
 -- rules 1 to 5
 pub frame-kept : (s : List ℕ) → none ≡ scan (frameRows s) → Framed s
 unfolding frameRows isMarked
@@ -177,7 +197,7 @@ frame-kept s e =
     let n = neither (ltb 64 (taskCount s)) (ltb 8 (coreCount s)) (whole-clear _ (d .0)) in
     record {
       mark = (eqb-true _ _ (m .0), eqb-true _ _ (m′ .0), eqb-true _ _ (m′ .1));
-      version = eqb-true _ _ (not-false _ (whole-clear _ (c .0)));
+      version = versioned s (whole-clear _ (c .0));
       tasks = ltb-false _ _ (n .0);
       cores = ltb-false _ _ (n .1);
       size = eqb-true _ _ (not-false _ (whole-clear _ (g .0)));
@@ -188,7 +208,7 @@ unfolding frameRows isMarked
 frame-keep s t =
     row-clear 1 _ _ (whole-none _ (le-ltb (length s) 8 (omega (arith, t .size))))
     (row-clear 2 _ _ (whole-none _ (rw (t .mark .0, t .mark .1, t .mark .2)))
-    (row-clear 3 _ _ (whole-none _ (rw (t .version)))
+    (row-clear 3 _ _ (whole-none _ (version-good s (t .version)))
     (row-clear 4 _ _ (whole-none _ (rw (le-ltb 64 (taskCount s) (t .tasks), le-ltb 8 (coreCount s) (t .cores))))
     (row-clear 5 _ _ (whole-none _ (rw (eq-eqb _ _ (t .size)))) end-clear))))
 
@@ -205,41 +225,57 @@ accepted-clear s n c e = by (scan (rules s)) e
     by none t = (refl, cc, cc)
     by (some r) t = absurd (let z : _≡_ {A = ℕ} 0 1 = cc in omega arith)
 
+-- rule 23, as a row and as a proposition
+pub order-kept : (grouped : Bool) (n c : ℕ) (records : List ℕ) → badOrder grouped (positionedIn grouped n c records) records ≡ false → OrderKept grouped n c records
+unfolding badOrder OrderKept
+order-kept true n c records e g = in-order _ _ _ n c e
+order-kept false n c records e g = absurd (true≢false (sym g))
+
+order-keep : (grouped : Bool) (n c : ℕ) (records : List ℕ) → OrderKept grouped n c records → badOrder grouped (positionedIn grouped n c records) records ≡ false
+unfolding badOrder OrderKept
+order-keep true n c records h = order-in _ _ _ n c (h refl)
+order-keep false n c records h = refl
+
 -- acceptance, from the table and back
 from-table : (s : List ℕ) → none ≡ scan (rules s) → Acceptable s
-unfolding rules spareRows recordRows Each
+unfolding rules spareRows partRows recordRows Each
 from-table s e =
-    let f : Figures = figures s in
-    let a = scan-clears (frameRows s) (spareRows (taskCount s) (coreCount s) s (drop 8 s) ++ recordRows f) e in
-    let b = scan-clears (spareRows (taskCount s) (coreCount s) s (drop 8 s)) (recordRows f) (a .1) in
-    let d = scan-clears (taskRows f) (coreRows f ++ fitRows f) (b .1) in
+    let f : Figures = byPosition s in
+    let out : Bool = badOrder (isGrouped s) f (drop 8 s) in
+    let a = scan-clears (frameRows s) (spareRows (isGrouped s) (taskCount s) (coreCount s) s (drop 8 s) ++ recordRows out f) e in
+    let b = scan-clears (spareRows (isGrouped s) (taskCount s) (coreCount s) s (drop 8 s)) (recordRows out f) (a .1) in
+    let d = scan-clears (taskRows out f) (coreRows f ++ fitRows f) (b .1) in
     let g = scan-clears (coreRows f) (fitRows f) (d .1) in
     let x = scan-clear 6 (find (isSet s) (7 ∷ [])) _ (b .0) in
     let y = scan-clear 6 _ _ (x .1) in
     let z = scan-clear 6 _ _ (y .1) in
+    let t = tasks-kept out f (d .0) in
     record {
       frame = frame-kept s (a .0);
       spares =
           record {
             header = spared s (7 ∷ []) (x .0) .0;
             tasks = λ i h. rw (zero-add (10 * i)) at (task-each (λ x. getD (drop 8 s) x 0 ≡ 0) 0 (taskCount s) (spared (drop 8 s) _ (offset-clear _ (y .0))) i h);
-            cores = core-each (λ x. getD (drop 8 s) x 0 ≡ 0) (10 * taskCount s) (coreCount s) (spared (drop 8 s) _ (offset-clear _ (z .0)));
+            cores = core-each (λ x. getD (drop 8 s) x 0 ≡ 0) (isGrouped s) (10 * taskCount s) (coreCount s) (spared (drop 8 s) _ (offset-clear _ (z .0)));
           };
-      fitting = record { tasks = tasks-kept f (d .0); cores = cores-kept f (g .0); fits = fits-kept f (g .1) };
+      order = order-kept (isGrouped s) (taskCount s) (coreCount s) (drop 8 s) (t .0);
+      fitting = record { tasks = t .1; cores = cores-kept f (g .0); fits = fits-kept f (g .1) };
     }
 
 to-table : (s : List ℕ) → Acceptable s → scan (rules s) ≡ none
-unfolding rules spareRows recordRows Each
+unfolding rules spareRows partRows recordRows Each
 to-table s t =
-    let g : Fitting (figures s) = t .fitting in
+    let f : Figures = byPosition s in
+    let out : Bool = badOrder (isGrouped s) f (drop 8 s) in
+    let g : Fitting f = t .fitting in
     let b : SparesZero s = t .spares in
     both-clear (frameRows s) _ (frame-keep s (t .frame))
-    (both-clear (spareRows (taskCount s) (coreCount s) s (drop 8 s)) _
+    (both-clear (spareRows (isGrouped s) (taskCount s) (coreCount s) s (drop 8 s)) _
     (row-clear 6 _ _ (spares-none s (7 ∷ []) (b .header, tt))
     (row-clear 6 _ _ (offset-none _ (spares-none (drop 8 s) _ (task-all (λ x. getD (drop 8 s) x 0 ≡ 0) 0 (taskCount s) (λ i h. rw (zero-add (10 * i)) (b .tasks i h)))))
-    (row-clear 6 _ _ (offset-none _ (spares-none (drop 8 s) _ (core-all (λ x. getD (drop 8 s) x 0 ≡ 0) (10 * taskCount s) (coreCount s) (b .cores)))) end-clear)))
-    (both-clear (taskRows (figures s)) _ (tasks-keep (figures s) (g .tasks))
-    (both-clear (coreRows (figures s)) _ (cores-keep (figures s) (g .cores)) (fits-keep (figures s) (g .fits)))))
+    (row-clear 6 _ _ (offset-none _ (spares-none (drop 8 s) _ (core-all (λ x. getD (drop 8 s) x 0 ≡ 0) (isGrouped s) (10 * taskCount s) (coreCount s) (b .cores)))) end-clear)))
+    (both-clear (taskRows out f) _ (tasks-keep out f (order-keep (isGrouped s) (taskCount s) (coreCount s) (drop 8 s) (t .order)) (g .tasks))
+    (both-clear (coreRows f) _ (cores-keep f (g .cores)) (fits-keep f (g .fits)))))
 
 -- The verdict is "accepted with n and c" exactly when the sheet is acceptable and n and c are its counts.
 pub accepted-exactly : (s : List ℕ) (n c : ℕ) → (verdict s ≡ accepted n c) ↔ (Acceptable s × (n ≡ taskCount s) × (c ≡ coreCount s))
@@ -247,39 +283,3 @@ accepted-exactly s n c = (
   (λ e. let w = accepted-clear s n c e in (from-table s (w .0), w .1, w .2)),
   (λ t. clear-accepted s (to-table s (t .0)) ∙ rw (t .1, t .2)),
 )
-
--- what a dispatcher may rely on, for core k of figures that fit
-schedulable : (f : Figures) (k : ℕ) → f .tasks ≤ 64 → k < f .cores → Fitting f → Schedulable (f .period) (f .budget) (f .factor) (f .pivot k) (f .divisor k) (orderOn f k)
-unfolding orderOn LoadAtMostOne
-schedulable f k n h g =
-    let l : List ℕ = order (f .period) (f .core) k (f .tasks) in
-    let members : Each (λ i. (i < f .tasks) × (f .core i ≡ k)) l = order-members (f .period) (f .core) k (f .tasks) in
-    let positive : Each (λ i. 0 < f .factor i) l = each-of l (λ i m. g .cores .factor i (m .0) .0) members in
-    let fast : Each (λ i. f .pivot k * f .factor i ≤ f .period i * f .divisor k) l = each-of l (λ i m. rw (m .1) at (g .cores .accelerated i (m .0))) members in
-    record {
-      count = le-trans (order-count (f .period) (f .core) k (f .tasks)) n;
-      number = each-of l (λ i m. le-trans (m .0) n) members;
-      order = order-rising (f .period) (f .core) k (f .tasks);
-      period = each-of l (λ i m. g .tasks .period i (m .0)) members;
-      budget = each-of l (λ i m. g .tasks .budget i (m .0)) members;
-      factor = positive;
-      divisor = g .cores .divisor k h .0;
-      accelerated = fast;
-      multiples = multiples-pairs (f .factor) 1 l (g .fits .simply-periodic k h);
-      level = level-load (f .budget) (f .factor) (f .divisor k) (f .pivot k) l (g .fits .simply-periodic k h) positive (g .fits .load k h);
-      bounds = each-both l (λ i a b. (a, b)) (budget-within (f .budget) (f .factor) (f .divisor k) (f .pivot k) l (g .fits .simply-periodic k h) positive (g .fits .load k h) (g .cores .divisor k h .0)) (each-of l (λ i a. within-period (f .pivot k) (f .divisor k) (f .factor i) (f .period i) a) fast);
-    }
-
--- The acceptance contract: all that a dispatcher uses of an accepted sheet.
-pub core-of : (s : List ℕ) (n c k : ℕ) → verdict s ≡ accepted n c → k < c → CoreOf s n c k
-core-of s n c k e h =
-    let w = accepted-exactly s n c .0 e in
-    let few : n ≤ 64 = omega (arith, w .0 .frame .tasks, w .1) in
-    record {
-      tasks = w .1;
-      cores = w .2;
-      few = few;
-      size = omega (arith, w .0 .frame .size, w .1, w .2);
-      core = h;
-      schedulable = schedulable (figures s) k (w .0 .frame .tasks) (rw (w .2) at h) (w .0 .fitting);
-    }

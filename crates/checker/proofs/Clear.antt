@@ -2,6 +2,7 @@
 -- Assumes nothing.
 use Prim.Native.Nat.{ℕ, _-_, _*_, _≤_, _<_}
 use mathlib.Core.Path.{_≡_, sym, ap, _∙_}
+use mathlib.Core.Bool.{Bool}
 use mathlib.Core.List.{List}
 use native.Mathlib.Omega.{arith}
 use lib.ListN.{length, take, drop, length-drop}
@@ -10,23 +11,24 @@ use Rattle.sheet.specs.declared.Finding.{Finding}
 use Rattle.sheet.specs.declared.Finding.the-variants.{Clear, Broken}
 use Rattle.sheet.specs.Refusals.{numberOf}
 use Rattle.sheet.specs.Table.{scan, findingOf}
-use Rattle.sheet.specs.Records.{Figures, taskCount, coreCount, figuresOf}
+use Rattle.sheet.specs.Records.{Figures, taskCount, coreCount}
+use Rattle.sheet.specs.Views.{isGrouped}
 use Rattle.sheet.proofs.Scans.{part-hit, part-skip, scan-clears}
 use Rattle.fit.proofs.Lists.{part}
-use Rattle.checker.specs.Rules.{frameRows, spareRows, taskRows, coreRows, recordRows, rules}
+use Rattle.checker.specs.Rules.{frameRows, spareRows, taskRows, coreRows, partRows, rules}
 use Rattle.checker.specs.declared.Verdict.{Verdict}
 use Rattle.checker.specs.Verdict.{accepted, refused, outcome, outcomeOf, verdict}
 use Rattle.checker.specs.Steps.{InRange, earlyRows}
 use Rattle.checker.proofs.Acceptance.{frame-kept, cores-kept}
 
 -- what rule 14 needs, where rules 7 to 12 are kept
-pub clear-range : (f : Figures) (s : Finding) → f .tasks ≤ 64 → findingOf s ≡ scan (earlyRows f) → s ≡ Clear → (k : ℕ) → k < f .cores → InRange f k
+pub clear-range : (b : Bool) (f : Figures) (s : Finding) → f .tasks ≤ 64 → findingOf s ≡ scan (earlyRows b f) → s ≡ Clear → (k : ℕ) → k < f .cores → InRange f k
 unfolding earlyRows
-clear-range f s n e q k h =
-    let g = cores-kept f (scan-clears (taskRows f) (coreRows f) (sym (ap findingOf q) ∙ e) .1) in
+clear-range b f s n e q k h =
+    let g = cores-kept f (scan-clears (taskRows b f) (coreRows f) (sym (ap findingOf q) ∙ e) .1) in
     record { count = n; factors = λ i z. g .factor i z .1; divisor = g .divisor k h .1 }
 
--- the ways out of rules 1 to 14, with the code's parts of the sheet
+-- the ways out of all rules, with the code's parts of the sheet
 module _ (s : List ℕ) (r : Finding) (w : Refusal) (p : ℕ) where
   pub frame-broken : findingOf r ≡ scan (frameRows s) → r ≡ Broken w p → findingOf r ≡ scan (rules s)
   unfolding rules
@@ -42,19 +44,19 @@ module _ (s : List ℕ) (t : Finding) (n c : ℕ) (frame : findingOf t ≡ scan 
   pub tasks-few : n ≤ 64
   tasks-few = rw en (frame-kept s (sym (ap findingOf clear) ∙ frame) .tasks)
 
-  module _ (r : Finding) (e : findingOf r ≡ scan (spareRows n c s (take (length s - 8) (drop 8 s)))) where
-    spares : findingOf r ≡ scan (spareRows (taskCount s) (coreCount s) s (drop 8 s))
-    spares = rw (en, ec, part s 8) at e
+  module _ (r : Finding) (grouped : Bool) (eg : grouped ≡ isGrouped s) (e : findingOf r ≡ scan (spareRows grouped n c s (take (length s - 8) (drop 8 s)))) where
+    spares : findingOf r ≡ scan (spareRows (isGrouped s) (taskCount s) (coreCount s) s (drop 8 s))
+    spares = rw (en, ec, eg, part s 8) at e
 
     pub spare-broken : (w : Refusal) (p : ℕ) → r ≡ Broken w p → findingOf r ≡ scan (rules s)
     unfolding rules
-    spare-broken w p h = part-skip t (frameRows s) _ _ frame clear (part-hit r (spareRows (taskCount s) (coreCount s) s (drop 8 s)) _ w p spares h)
+    spare-broken w p h = part-skip t (frameRows s) _ _ frame clear (part-hit r (spareRows (isGrouped s) (taskCount s) (coreCount s) s (drop 8 s)) _ w p spares h)
 
-    pub records-found : (a : ℕ) (q : Finding) → r ≡ Clear → a ≡ 10 * n → findingOf q ≡ scan (recordRows (figuresOf n c (take (length s - 8) (drop 8 s)) (take (length (take (length s - 8) (drop 8 s)) - a) (drop a (take (length s - 8) (drop 8 s)))))) → findingOf q ≡ scan (rules s)
+    pub records-found : (q : Finding) → r ≡ Clear → findingOf q ≡ scan (partRows grouped n c (take (length s - 8) (drop 8 s))) → findingOf q ≡ scan (rules s)
     unfolding rules
-    records-found a q h z g =
-        let g′ : findingOf q ≡ scan (recordRows (figuresOf (taskCount s) (coreCount s) (drop 8 s) (drop (10 * taskCount s) (drop 8 s)))) = rw (part (take (length s - 8) (drop 8 s)) a, part s 8, z, en, ec) at g in
-        part-skip t (frameRows s) _ _ frame clear (part-skip r (spareRows (taskCount s) (coreCount s) s (drop 8 s)) _ _ spares h g′)
+    records-found q h g =
+        let g′ : findingOf q ≡ scan (partRows (isGrouped s) (taskCount s) (coreCount s) (drop 8 s)) = rw (part s 8, en, ec, eg) at g in
+        part-skip t (frameRows s) _ _ frame clear (part-skip r (spareRows (isGrouped s) (taskCount s) (coreCount s) s (drop 8 s)) _ _ spares h g′)
 
 -- the two answers, and the verdict
 pub answer-refused : (f : Finding) (w : Refusal) (p n c : ℕ) → f ≡ Broken w p → refused (numberOf w) p ≡ outcome (findingOf f) n c

@@ -1,7 +1,7 @@
 -- Rules 13 and 14 at one core: what the code finds of its tasks in priority order is what the rules say.
 -- Assumes nothing.
 use Prim.Native.Nat.{ℕ, _+_, _-_, _≤_, _<_, min}
-use mathlib.Core.Path.{_≡_, refl, sym, ap, _∙_}
+use mathlib.Core.Path.{_≡_, refl, sym, ap, subst, _∙_}
 use mathlib.Core.Bool.{Bool, true, false, cond}
 use mathlib.Core.Option.{Option, none, some}
 use mathlib.Core.List.{List, []}
@@ -16,18 +16,28 @@ use Rattle.fit.specs.declared.Order.{Order}
 use Rattle.fit.specs.declared.Chain.{Chain}
 use Rattle.fit.specs.declared.Chain.the-variants.{Whole, Broken}
 use Rattle.fit.specs.Lists.{numbers, find, findSome, at}
-use Rattle.fit.specs.Priority.{order}
+use Rattle.fit.specs.Priority.{order, tasksOn, Above}
 use Rattle.fit.specs.Fits.{chainBreak, lastFactor, overloaded}
 use Rattle.fit.specs.Answers.{Column, Ordered, chainAnswer, chained, loadInRange}
 use Rattle.fit.proofs.Lists.{each-of}
 use Rattle.fit.proofs.Finds.{front}
 use Rattle.fit.proofs.Priority.{order-members, order-count, order-ext}
+use Rattle.fit.proofs.Presorted.{order-sorted}
 use Rattle.fit.proofs.Levels.{load-last}
 use Rattle.checker.specs.declared.fits.Judged.{Judged}
 use Rattle.checker.specs.declared.fits.Judged.the-variants.{Chained, Unchained}
 use Rattle.fit.specs.Cores.{orderOn}
 use Rattle.checker.specs.Tests.{chainBreakOn, overloadedOn}
-use Rattle.checker.specs.Steps.{judged, overInRange, InRange, firstOver}
+use Rattle.checker.specs.Steps.{judged, overInRange, Sorted, InRange, firstOver}
+
+-- where the positions are sorted by the periods of the records, they are by the code's column of them
+pub column-sorted : (f : Figures) (periods : List ℕ) (b : Bool) → Column (f .period) (min (f .tasks) 64) periods → (b ≡ true → Sorted f) → (i j : ℕ) → b ≡ true → i < j → j < min (f .tasks) 64 → f .core i ≡ f .core j → Above (at periods) i j
+unfolding Sorted Above
+column-sorted f periods b column s i j t h q e = rw (column .below i (omega arith), column .below j q) (s t i j h (omega arith) e)
+
+-- sorted positions are taken as they stand
+pub sorted-order : (p core : ℕ → ℕ) (k n : ℕ) (o : Order) (b : Bool) → ((i j : ℕ) → b ≡ true → i < j → j < n → core i ≡ core j → Above p i j) → b ≡ true → Ordered (tasksOn core k n) o → Ordered (order p core k n) o
+sorted-order p core k n o b s t h = subst (λ l. Ordered l o) (sym (order-sorted p core k n (λ i j. s i j t))) h
 
 answer-broken : (o : Option ℕ) (L i : ℕ) → Broken i ≡ chainAnswer o L → o ≡ some i
 unfolding chainAnswer

@@ -3,9 +3,14 @@ pub mod Offsets
 pub mod Spares
 pub mod Bare
 pub mod Judging
+pub mod Columns
 pub mod Clear
+pub mod Parts
 pub mod Acceptance
+pub mod Views
 pub mod Sound
 pub mod Lowest
 pub mod Refused
+pub mod Grouped
+pub mod Long
 pub mod Periodic

@@ -5,7 +5,9 @@ use Prim.Native.Nat.{ℕ, _*_, _≤_, _<_}
 use mathlib.Core.Path.{_≡_, refl}
 use mathlib.Core.Logic.{_↔_}
 use mathlib.Core.List.{List}
-use Rattle.sheet.specs.Records.{Figures, figures, taskCount, coreCount}
+use lib.ListN.{drop}
+use Rattle.sheet.specs.Records.{Figures, taskCount, coreCount}
+use Rattle.sheet.specs.Views.{isGrouped, byPosition}
 use Rattle.fit.specs.Lists.{Each}
 use Rattle.fit.specs.Fits.{Multiples}
 use Rattle.fit.specs.Cores.{orderOn}
@@ -14,7 +16,7 @@ use Rattle.fit.proofs.Lists.{each-of, each-occurs}
 use Rattle.fit.proofs.Priority.{order-members, order-holds}
 use Rattle.fit.proofs.Periodic.{paper-exactly}
 use Rattle.checker.specs.Verdict.{accepted, verdict}
-use Rattle.checker.specs.Accepted.{LoadAtMostOne, Framed, SparesZero, CoresFit, Fitting}
+use Rattle.checker.specs.Accepted.{LoadAtMostOne, Framed, SparesZero, OrderKept, CoresFit, Fitting}
 use Rattle.checker.specs.Periodic.{FiguresInRange, CoresAccelerated}
 use Rattle.checker.proofs.Acceptance.{accepted-exactly}
 
@@ -57,9 +59,10 @@ fitting-exactly f = (to, back)
         let w = cores-exactly f r .1 (t .1) in
         record { tasks = r .tasks; cores = record { not-bare = r .not-bare; factor = r .factor; pivot = r .pivot; divisor = r .divisor; accelerated = w .0 }; fits = w .1 }
 
--- The verdict is "accepted with n and c" exactly when the sheet has its form and those counts, and all this holds of its figures.
-pub accepted-periodic : (s : List ℕ) (n c : ℕ) → (verdict s ≡ accepted n c) ↔ (Framed s × SparesZero s × FiguresInRange (figures s) × CoresAccelerated (figures s) × (n ≡ taskCount s) × (c ≡ coreCount s))
+-- The verdict is "accepted with n and c" exactly when the sheet has its form, its order and those counts, and all this holds of its
+-- figures.
+pub accepted-periodic : (s : List ℕ) (n c : ℕ) → (verdict s ≡ accepted n c) ↔ (Framed s × SparesZero s × OrderKept (isGrouped s) (taskCount s) (coreCount s) (drop 8 s) × FiguresInRange (byPosition s) × CoresAccelerated (byPosition s) × (n ≡ taskCount s) × (c ≡ coreCount s))
 accepted-periodic s n c = (
-  (λ v. let (a, en, ec) = accepted-exactly s n c .0 v in let (r, g) = fitting-exactly (figures s) .0 (a .fitting) in (a .frame, a .spares, r, g, en, ec)),
-  (λ t. accepted-exactly s n c .1 (record { frame = t .0; spares = t .1; fitting = fitting-exactly (figures s) .1 (t .2, t .3) }, t .4, t .5)),
+  (λ v. let (a, en, ec) = accepted-exactly s n c .0 v in let (r, g) = fitting-exactly (byPosition s) .0 (a .fitting) in (a .frame, a .spares, a .order, r, g, en, ec)),
+  (λ t. accepted-exactly s n c .1 (record { frame = t .0; spares = t .1; order = t .2; fitting = fitting-exactly (byPosition s) .1 (t .3, t .4) }, t .5, t .6)),
 )

@@ -3,19 +3,20 @@
 use Prim.Native.Nat.{ℕ}
 use mathlib.Core.Path.{_≡_, refl, sym, subst}
 use mathlib.Core.Logic.{_↔_}
-use mathlib.Core.Bool.{false}
+use mathlib.Core.Bool.{Bool, false}
 use mathlib.Core.Option.{Option, none, some}
 use mathlib.Core.List.{List, [], _∷_, _++_}
 use native.Mathlib.Omega.{arith}
 use lib.ListN.{drop}
 use Rattle.sheet.specs.Table.{Row, Refused, _at_, scan, AllKept, FirstBroken, hasRule}
-use Rattle.sheet.specs.Records.{Figures, figures, taskCount, coreCount}
+use Rattle.sheet.specs.Records.{Figures, taskCount, coreCount}
+use Rattle.sheet.specs.Views.{isGrouped}
 use Rattle.sheet.proofs.Exactly.{scan-exactly, scan-kept, part-exactly, row-exactly}
 use Rattle.fit.specs.Lists.{numbers, findSome}
 use Rattle.fit.proofs.Firsts.{findSome-exactly, break-exactly}
 use Rattle.fit.proofs.Levels.{chain-multiples, multiples-chain}
 use Rattle.checker.specs.Tests.{chainBreakOn}
-use Rattle.checker.specs.Rules.{frameRows, spareRows, taskRows, coreRows, fitRows, recordRows, rules}
+use Rattle.checker.specs.Rules.{frameRows, spareRows, taskRows, coreRows, fitRows, recordRows, partRows, rules}
 use Rattle.checker.specs.Verdict.{refused, outcome, verdict}
 use Rattle.checker.specs.Accepted.{Framed}
 use Rattle.checker.specs.Places.{LowestSpare, FirstChainBreak}
@@ -56,15 +57,15 @@ frame-other : (s : List ℕ) → hasRule 6 (frameRows s) ≡ false
 unfolding frameRows hasRule
 frame-other s = refl
 
-records-other : (f : Figures) → hasRule 6 (recordRows f) ≡ false
-unfolding recordRows taskRows coreRows fitRows hasRule
-records-other f = refl
+records-other : (grouped : Bool) (n c : ℕ) (records : List ℕ) → hasRule 6 (partRows grouped n c records) ≡ false
+unfolding partRows recordRows taskRows coreRows fitRows hasRule
+records-other grouped n c records = refl
 
 -- Rule 6: the verdict is 6 at x exactly when rules 1 to 5 are kept and x is the lowest offset of a spare byte that is not 0.
 pub spare-exactly : (s : List ℕ) (x : ℕ) → (verdict s ≡ refused 6 x) ↔ (Framed s × LowestSpare s x)
 unfolding rules
 spare-exactly s x =
-    let part = part-exactly (frameRows s) (spareRows (taskCount s) (coreCount s) s (drop 8 s)) (recordRows (figures s)) 6 x (frame-other s) (records-other (figures s)) in (
+    let part = part-exactly (frameRows s) (spareRows (isGrouped s) (taskCount s) (coreCount s) s (drop 8 s)) (partRows (isGrouped s) (taskCount s) (coreCount s) (drop 8 s)) 6 x (frame-other s) (records-other (isGrouped s) (taskCount s) (coreCount s) (drop 8 s)) in (
       (λ v. let t = part .0 (refused-exactly s 6 x .0 v) in (frame-kept s (sym (scan-kept (frameRows s) .1 (t .0))), spare-rows-exactly s x .0 (t .1))),
       (λ t. refused-exactly s 6 x .1 (part .1 (scan-kept (frameRows s) .0 (frame-keep s (t .0)), spare-rows-exactly s x .1 (t .1)))),
     )

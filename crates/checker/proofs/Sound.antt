@@ -1,10 +1,10 @@
 -- One pass over the tasks: where every task keeps rules 7, 8, 9, 11 and 12, those rows of the table are clear.
 -- Assumes nothing.
 use Prim.Native.Nat.{ℕ, _+_, _≤_, _<_}
-use mathlib.Core.Path.{_≡_, sym, ap, _∙_}
+use mathlib.Core.Path.{_≡_, refl, sym, ap, _∙_}
 use mathlib.Core.Bool.{Bool, true, false, not, _||_}
-use mathlib.Core.Option.{none}
-use mathlib.Core.List.{_++_, append-assoc}
+use mathlib.Core.Option.{Option, none, some}
+use mathlib.Core.List.{[], _∷_, _++_, append-assoc}
 use native.Mathlib.Nat.{zero-add}
 use native.Mathlib.Decide.{ℕ-discrete}
 use native.Mathlib.Omega.{arith}
@@ -15,9 +15,9 @@ use Rattle.sheet.specs.declared.Finding.{Finding}
 use Rattle.sheet.specs.declared.Finding.the-variants.{Clear, Broken}
 use Rattle.sheet.specs.Ranges.{badPeriod, badBudget}
 use Rattle.sheet.specs.Records.{Figures}
-use Rattle.sheet.specs.Table.{scan, findingOf}
+use Rattle.sheet.specs.Table.{Refused, _at_, scan, whole, findingOf}
 use Rattle.sheet.proofs.Ranges.{neither}
-use Rattle.sheet.proofs.Scans.{scan-none, scan-skip, scan-second, part-hit, part-skip}
+use Rattle.sheet.proofs.Scans.{scan-none, scan-hit, scan-skip, scan-first, scan-second, whole-true, whole-false, part-hit, part-skip}
 use Rattle.fit.specs.Lists.{numbers, find}
 use Rattle.fit.proofs.Finds.{none-find}
 use Rattle.checker.specs.Tests.{badCore, badFactor, stretchedAt}
@@ -68,33 +68,42 @@ module _ (f : Figures) (all : (i : ℕ) → i < f .tasks → soundAt f i ≡ tru
   pub stretch-clear : none ≡ find (stretchedAt f) (numbers 0 (f .tasks))
   stretch-clear = clear (stretchedAt f) (λ i p. p .stretch)
 
-  tasks-clear : none ≡ scan (taskRows f)
+  -- rules 7 and 8 are clear before rule 23, and rule 9 after it
+  to-order : (b : Bool) (x : Option Refused) → x ≡ scan (23 at whole b ∷ 9 at find (badCore (f .cores) (f .core)) (numbers 0 (f .tasks)) ∷ []) → x ≡ scan (taskRows b f)
   unfolding taskRows
-  tasks-clear =
-      scan-skip 7 _ _ none (clear (badPeriod (f .period)) (λ i p. p .period))
-      (scan-skip 8 _ _ none (clear (badBudget (f .period) (f .budget)) (λ i p. p .budget))
-      (scan-skip 9 _ _ none (clear (badCore (f .cores) (f .core)) (λ i p. p .core)) scan-none))
+  to-order b x e =
+      scan-skip 7 _ _ x (clear (badPeriod (f .period)) (λ i p. p .period)) (scan-skip 8 _ _ x (clear (badBudget (f .period) (f .budget)) (λ i p. p .budget)) e)
 
-  pub early-fast : (r : Finding) → findingOf r ≡ scan (coreRows f) → findingOf r ≡ scan (earlyRows f)
+  pub early-misordered : (b : Bool) → b ≡ true → some (record { number = 23; place = 0 }) ≡ scan (earlyRows b f)
   unfolding earlyRows
-  early-fast r e = scan-second (taskRows f) (coreRows f) _ tasks-clear e
+  early-misordered b h =
+      scan-first (taskRows b f) (coreRows f) _ (to-order b _ (scan-hit 23 0 _ _ (whole-true b b refl h)))
 
--- the ways out of rules 7 to 12, one group after the other
-pub early-broken : (f : Figures) (r : Finding) (w : Refusal) (p : ℕ) → findingOf r ≡ scan (taskRows f) → r ≡ Broken w p → findingOf r ≡ scan (earlyRows f)
-unfolding earlyRows
-early-broken f r w p e h = part-hit r (taskRows f) (coreRows f) w p e h
+  tasks-clear : (b : Bool) → b ≡ false → none ≡ scan (taskRows b f)
+  tasks-clear b h =
+      to-order b none (scan-skip 23 _ _ none (whole-false b b refl h) (scan-skip 9 _ _ none (clear (badCore (f .cores) (f .core)) (λ i p. p .core)) scan-none))
 
-pub early-slow : (f : Figures) (t r : Finding) → findingOf t ≡ scan (taskRows f) → t ≡ Clear → findingOf r ≡ scan (coreRows f) → findingOf r ≡ scan (earlyRows f)
-unfolding earlyRows
-early-slow f t r e h q = part-skip t (taskRows f) (coreRows f) _ e h q
+  pub early-fast : (b : Bool) (r : Finding) → b ≡ false → findingOf r ≡ scan (coreRows f) → findingOf r ≡ scan (earlyRows b f)
+  unfolding earlyRows
+  early-fast b r h e = scan-second (taskRows b f) (coreRows f) _ (tasks-clear b h) e
 
--- rules 7 to 14 are the early rows and then the last two
-all-rows : (f : Figures) → earlyRows f ++ fitRows f ≡ recordRows f
-unfolding earlyRows recordRows
-all-rows f = append-assoc (taskRows f) (coreRows f) (fitRows f)
+-- the ways out of rules 7 to 12 and 23, one group after the other
+module _ (b : Bool) (f : Figures) where
+  pub early-broken : (r : Finding) (w : Refusal) (p : ℕ) → findingOf r ≡ scan (taskRows b f) → r ≡ Broken w p → findingOf r ≡ scan (earlyRows b f)
+  unfolding earlyRows
+  early-broken r w p e h = part-hit r (taskRows b f) (coreRows f) w p e h
 
-pub records-broken : (f : Figures) (r : Finding) (w : Refusal) (p : ℕ) → findingOf r ≡ scan (earlyRows f) → r ≡ Broken w p → findingOf r ≡ scan (recordRows f)
-records-broken f r w p e h = part-hit r (earlyRows f) (fitRows f) w p e h ∙ ap scan (all-rows f)
+  pub early-slow : (t r : Finding) → findingOf t ≡ scan (taskRows b f) → t ≡ Clear → findingOf r ≡ scan (coreRows f) → findingOf r ≡ scan (earlyRows b f)
+  unfolding earlyRows
+  early-slow t r e h q = part-skip t (taskRows b f) (coreRows f) _ e h q
 
-pub records-fit : (f : Figures) (t r : Finding) → findingOf t ≡ scan (earlyRows f) → t ≡ Clear → findingOf r ≡ scan (fitRows f) → findingOf r ≡ scan (recordRows f)
-records-fit f t r e h q = part-skip t (earlyRows f) (fitRows f) _ e h q ∙ ap scan (all-rows f)
+  -- all rules are the early rows and then the last two
+  all-rows : earlyRows b f ++ fitRows f ≡ recordRows b f
+  unfolding earlyRows recordRows
+  all-rows = append-assoc (taskRows b f) (coreRows f) (fitRows f)
+
+  pub records-broken : (r : Finding) (w : Refusal) (p : ℕ) → findingOf r ≡ scan (earlyRows b f) → r ≡ Broken w p → findingOf r ≡ scan (recordRows b f)
+  records-broken r w p e h = part-hit r (earlyRows b f) (fitRows f) w p e h ∙ ap scan all-rows
+
+  pub records-fit : (t r : Finding) → findingOf t ≡ scan (earlyRows b f) → t ≡ Clear → findingOf r ≡ scan (fitRows f) → findingOf r ≡ scan (recordRows b f)
+  records-fit t r e h q = part-skip t (earlyRows b f) (fitRows f) _ e h q ∙ ap scan all-rows

@@ -2,13 +2,14 @@
 -- Assumes nothing.
 use Prim.Native.Nat.{ℕ, suc, _+_, _-_, _≤_, _<_}
 use mathlib.Core.Path.{_≡_, sym, _∙_}
-use mathlib.Core.Bool.{true, false}
+use mathlib.Core.Bool.{Bool, true, false, not, _&&_, false≢true}
 use mathlib.Core.Option.{none, some}
 use mathlib.Core.List.{List, [], _∷_}
 use native.Mathlib.Omega.{arith}
 use native.Mathlib.Nat.{sub-zero}
-use borrow.Author.Tests.{eq-eqb, ne-eqb}
+use borrow.Author.Tests.{eq-eqb, ne-eqb, eqb-true, eqb-false, not-true, not-false}
 use lib.ListN.{getD}
+use lib.Dec.{eqb}
 use Rattle.sheet.specs.Table.{_at_, scan}
 use Rattle.fit.specs.Lists.{find}
 use Rattle.checker.specs.Tests.{taskSpares, coreSpares, isSet}
@@ -62,29 +63,43 @@ task-end s l n i a h k =
     let q : n - i ≡ 0 = omega arith in
     done s l (rw q at k)
 
--- in the core records
-pub core-start : (s : List ℕ) (a c : ℕ) → To s (coreSpares a c) (coreSpares a (c - 0))
-core-start s a c = record { same = rw (sub-zero c) }
+-- in the core records: byte 2 of each where they are not grouped, and byte 3
+pub core-start : (s : List ℕ) (grouped : Bool) (a c : ℕ) → To s (coreSpares grouped a c) (coreSpares grouped a (c - 0))
+core-start s grouped a c = record { same = rw (sub-zero c) }
 
-module _ (s l : List ℕ) (c k a r : ℕ) (h : k < c) (t : To s l (coreSpares a (c - k))) (e : r ≡ getD s (a + 2) 0) where
-  cores-left : To s l ((a + 2) ∷ ((a + 3) ∷ coreSpares (a + 8) (c - (k + 1))))
-  unfolding coreSpares
+module _ (s l : List ℕ) (grouped : Bool) (c k a r : ℕ) (h : k < c) (t : To s l (coreSpares grouped a (c - k))) (e : r ≡ getD s (a + 2) 0) where
+  cores-left : To s l (coreSpares grouped a (suc (c - (k + 1))))
   cores-left =
       let q : c - k ≡ suc (c - (k + 1)) = omega arith in
       rw q at t
 
-  pub core-hit : (r ≡ 0 → ⊥) → some (record { number = 6; place = 8 + (a + 2) }) ≡ scan (6 at offset (find (isSet s) l) ∷ [])
-  core-hit z = hit s l ((a + 3) ∷ coreSpares (a + 8) (c - (k + 1))) (a + 2) r cores-left e z
+  pub core-hit : (not grouped && not (eqb r 0)) ≡ true → some (record { number = 6; place = 8 + (a + 2) }) ≡ scan (6 at offset (find (isSet s) l) ∷ [])
+  unfolding coreSpares
+  core-hit z = by grouped z cores-left
+    where
+      by : (b : Bool) → (not b && not (eqb r 0)) ≡ true → To s l (coreSpares b a (suc (c - (k + 1)))) → some (record { number = 6; place = 8 + (a + 2) }) ≡ scan (6 at offset (find (isSet s) l) ∷ [])
+      by true z w = absurd (false≢true z)
+      by false z w = hit s l ((a + 3) ∷ coreSpares false (a + 8) (c - (k + 1))) (a + 2) r w e (eqb-false r 0 (not-true _ z))
 
-  pub core-hit-2 : (r′ : ℕ) → r ≡ 0 → r′ ≡ getD s (a + 3) 0 → (r′ ≡ 0 → ⊥) → some (record { number = 6; place = 8 + (a + 3) }) ≡ scan (6 at offset (find (isSet s) l) ∷ [])
-  core-hit-2 r′ z e′ z′ = hit s l (coreSpares (a + 8) (c - (k + 1))) (a + 3) r′ (turn s l ((a + 3) ∷ coreSpares (a + 8) (c - (k + 1))) (a + 2) r cores-left e z) e′ z′
+  module _ (z : (not grouped && not (eqb r 0)) ≡ false) (r′ : ℕ) (e′ : r′ ≡ getD s (a + 3) 0) where
+    -- byte 2 is passed
+    high-left : To s l ((a + 3) ∷ coreSpares grouped (a + 8) (c - (k + 1)))
+    unfolding coreSpares
+    high-left = by grouped z cores-left
+      where
+        by : (b : Bool) → (not b && not (eqb r 0)) ≡ false → To s l (coreSpares b a (suc (c - (k + 1)))) → To s l ((a + 3) ∷ coreSpares b (a + 8) (c - (k + 1)))
+        by true z w = w
+        by false z w = turn s l ((a + 3) ∷ coreSpares false (a + 8) (c - (k + 1))) (a + 2) r w e (eqb-true r 0 (not-false _ z))
 
-  pub core-turn : (r′ : ℕ) → r ≡ 0 → r′ ≡ getD s (a + 3) 0 → r′ ≡ 0 → To s l (coreSpares (a + 8) (c - (k + 1)))
-  core-turn r′ z e′ z′ = turn s l (coreSpares (a + 8) (c - (k + 1))) (a + 3) r′ (turn s l ((a + 3) ∷ coreSpares (a + 8) (c - (k + 1))) (a + 2) r cores-left e z) e′ z′
+    pub core-hit-2 : (r′ ≡ 0 → ⊥) → some (record { number = 6; place = 8 + (a + 3) }) ≡ scan (6 at offset (find (isSet s) l) ∷ [])
+    core-hit-2 z′ = hit s l (coreSpares grouped (a + 8) (c - (k + 1))) (a + 3) r′ high-left e′ z′
 
-pub core-end : (s l : List ℕ) (c k a : ℕ) → c ≤ k → To s l (coreSpares a (c - k)) → none ≡ scan (6 at offset (find (isSet s) l) ∷ [])
+    pub core-turn : r′ ≡ 0 → To s l (coreSpares grouped (a + 8) (c - (k + 1)))
+    core-turn z′ = turn s l (coreSpares grouped (a + 8) (c - (k + 1))) (a + 3) r′ high-left e′ z′
+
+pub core-end : (s l : List ℕ) (grouped : Bool) (c k a : ℕ) → c ≤ k → To s l (coreSpares grouped a (c - k)) → none ≡ scan (6 at offset (find (isSet s) l) ∷ [])
 unfolding coreSpares
-core-end s l c k a h t =
+core-end s l grouped c k a h t =
     let q : c - k ≡ 0 = omega arith in
     done s l (rw q at t)
 

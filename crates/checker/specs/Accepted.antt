@@ -1,33 +1,37 @@
--- What it means that a sheet is accepted, as a proposition (docs/SHEET.md, sections 2 to 4), and what a dispatcher may rely on for a core
+-- What it means that a sheet is accepted, as a proposition (docs/SHEET.md, sections 2 to 4 and 12), and what a dispatcher may rely on for a core
 -- of an accepted sheet.
 use Prim.Native.Nat.{ℕ, _+_, _*_, _≤_, _<_}
 use mathlib.Core.Path.{_≡_}
+use mathlib.Core.Logic.{_⊎_}
+use mathlib.Core.Bool.{Bool, true, false}
 use mathlib.Core.List.{List, [], _∷_, _++_}
 use lib.ListN.{length, getD, drop}
-use Rattle.sheet.specs.Numbers.{word}
-use Rattle.sheet.specs.Records.{Figures, figures, taskCount, coreCount}
+use Rattle.sheet.specs.Records.{Figures, numberAt, countAt, taskCount, coreCount}
+use Rattle.sheet.specs.Views.{version, isGrouped, numberOfPosition, positionedIn, byPosition, figures}
 use Rattle.fit.specs.Lists.{Each, EachPair}
 use Rattle.fit.specs.Priority.{Above}
 use Rattle.fit.specs.Fits.{Multiple, Multiples, load, exactLoad, fullLoad, within}
 use Rattle.fit.specs.Cores.{orderOn}
+use Rattle.views.specs.Order.{InOrder}
+use Rattle.views.specs.Renamed.{Renamed}
 
 -- the load of core k is at most one
 unfoldable pub LoadAtMostOne : Figures → ℕ → Type 0
 LoadAtMostOne f k = exactLoad (f .budget) (f .factor) (f .divisor k) (orderOn f k) ≤ fullLoad (f .factor) (f .pivot k) (orderOn f k)
 
--- rules 1 to 5: the letters T S H, version 1, at most 64 tasks and 8 cores, and the length that the counts give
+-- rules 1 to 5: the letters T S H, version 1 or 2, at most 64 tasks and 8 cores, and the length that the counts give
 pub record Framed (s : List ℕ) : Type 0 where
   pub mark : (getD s 0 0 ≡ 0x54) × (getD s 1 0 ≡ 0x53) × (getD s 2 0 ≡ 0x48)
-  pub version : word s 3 ≡ 1
+  pub version : (version s ≡ 1) ⊎ (version s ≡ 2)
   pub tasks : taskCount s ≤ 64
   pub cores : coreCount s ≤ 8
   pub size : length s ≡ 8 + 10 * taskCount s + 8 * coreCount s
 
--- rule 6: every spare byte is zero
+-- rule 6: every spare byte is zero; in version 2 byte 2 of a core record is none
 pub record SparesZero (s : List ℕ) : Type 0 where
   pub header : getD s 7 0 ≡ 0
   pub tasks : (i : ℕ) → i < taskCount s → getD (drop 8 s) (10 * i + 5) 0 ≡ 0
-  pub cores : (k : ℕ) → k < coreCount s → (getD (drop 8 s) (10 * taskCount s + 8 * k + 2) 0 ≡ 0) × (getD (drop 8 s) (10 * taskCount s + 8 * k + 3) 0 ≡ 0)
+  pub cores : (k : ℕ) → k < coreCount s → (isGrouped s ≡ false → getD (drop 8 s) (10 * taskCount s + 8 * k + 2) 0 ≡ 0) × (getD (drop 8 s) (10 * taskCount s + 8 * k + 3) 0 ≡ 0)
 
 -- rules 7 to 9: the period, budget and core of every task are in range
 pub record TasksInRange (f : Figures) : Type 0 where
@@ -54,11 +58,18 @@ pub record Fitting (f : Figures) : Type 0 where
   pub cores : CoresInRange f
   pub fits : CoresFit f
 
--- all rules are kept
+-- rule 23: the records of a version 2 sheet, the part from byte 8, are in its order
+unfoldable pub OrderKept : Bool → ℕ → ℕ → List ℕ → Type 0
+OrderKept grouped n c records =
+    let f : Figures = positionedIn grouped n c records in
+    grouped ≡ true → InOrder (f .period) (numberAt records) (f .core) (countAt (drop (10 * n) records)) n c
+
+-- all rules are kept; rules 7 to 14 go by position
 pub record Acceptable (s : List ℕ) : Type 0 where
   pub frame : Framed s
   pub spares : SparesZero s
-  pub fitting : Fitting (figures s)
+  pub order : OrderKept (isGrouped s) (taskCount s) (coreCount s) (drop 8 s)
+  pub fitting : Fitting (byPosition s)
 
 -- What a dispatcher may rely on for a core with pivot Q and divisor D whose tasks in priority order are l; p, e and M are by task
 -- number. Each factor divides all after it. The load is at most one at every level: of each task with those above it, at that task's
@@ -76,12 +87,13 @@ pub record Schedulable (p e M : ℕ → ℕ) (Q D : ℕ) (l : List ℕ) : Type 0
   pub level : (xs : List ℕ) (i : ℕ) (ys : List ℕ) → l ≡ xs ++ i ∷ ys → load e M D (M i) (xs ++ i ∷ []) ≤ Q * M i
   pub bounds : Each (λ i. (e i ≤ within Q D (M i)) × (within Q D (M i) ≤ p i)) l
 
--- The same for core k of a sheet that is accepted with n tasks and c cores, and the sheet's size: all that a dispatcher uses of the
--- checker.
+-- The same by task number for core k of a sheet that is accepted with n tasks and c cores, the sheet's size, and that its two views have
+-- the same figures: all that a dispatcher uses of the checker.
 pub record CoreOf (s : List ℕ) (n c k : ℕ) : Type 0 where
   pub tasks : n ≡ taskCount s
   pub cores : c ≡ coreCount s
   pub few : n ≤ 64
   pub size : length s ≡ 8 + 10 * n + 8 * c
   pub core : k < c
+  pub views : Renamed (byPosition s) (figures s) (numberOfPosition (isGrouped s) (drop 8 s))
   pub schedulable : Schedulable (figures s .period) (figures s .budget) (figures s .factor) (figures s .pivot k) (figures s .divisor k) (orderOn (figures s) k)

@@ -1,16 +1,16 @@
--- The rules 1 to 14 as one table, read from the top (docs/SHEET.md, section 4).
+-- The rules 1 to 14 and 23 as one table, read from the top (docs/SHEET.md, sections 4 and 12). Places of tasks are positions.
 use Prim.Native.Nat.{ℕ, _+_, _*_}
-use mathlib.Core.Bool.{not, _||_}
+use mathlib.Core.Bool.{Bool, not, _||_}
 use mathlib.Core.Option.{Option, Option·map}
 use mathlib.Core.List.{List, [], _∷_, _++_}
 use lib.ListN.{length, drop}
 use lib.Dec.{ltb, eqb}
 use Rattle.sheet.specs.Table.{Row, _at_, whole, core}
 use Rattle.sheet.specs.Ranges.{badPeriod, badBudget}
-use Rattle.sheet.specs.Numbers.{word}
-use Rattle.sheet.specs.Records.{Figures, figuresIn, taskCount, coreCount}
+use Rattle.sheet.specs.Records.{Figures, taskCount, coreCount}
+use Rattle.sheet.specs.Views.{isGrouped, positionedIn}
 use Rattle.fit.specs.Lists.{numbers, find, findSome}
-use Rattle.checker.specs.Tests.{isMarked, taskSpares, coreSpares, isSet, badCore, bare, badFactor, badPivot, stretchedAt, chainBreakOn, overloadedOn}
+use Rattle.checker.specs.Tests.{isMarked, badVersion, taskSpares, coreSpares, isSet, badOrder, badCore, bare, badFactor, badPivot, stretchedAt, chainBreakOn, overloadedOn}
 
 -- an offset in the part from byte 8, as one in the sheet
 unfoldable pub offset : Option ℕ → Option ℕ
@@ -21,28 +21,29 @@ unfoldable pub frameRows : List ℕ → List Row
 frameRows s =
     1 at whole (ltb (length s) 8)
     ∷ 2 at whole (not (isMarked s))
-    ∷ 3 at whole (not (eqb (word s 3) 1))
+    ∷ 3 at whole (badVersion s)
     ∷ 4 at whole (ltb 64 (taskCount s) || ltb 8 (coreCount s))
     ∷ 5 at whole (not (eqb (length s) (8 + 10 * taskCount s + 8 * coreCount s)))
     ∷ []
 
--- 6 Spare: byte 7 of the header, byte 5 of each task record, bytes 2 and 3 of each core record
-unfoldable pub spareRows : ℕ → ℕ → List ℕ → List ℕ → List Row
-spareRows n c s records =
+-- 6 Spare: byte 7 of the header, byte 5 of each task record, bytes 2 and 3 of each core record, in version 2 byte 3 alone
+unfoldable pub spareRows : Bool → ℕ → ℕ → List ℕ → List ℕ → List Row
+spareRows grouped n c s records =
     6 at find (isSet s) (7 ∷ [])
     ∷ 6 at offset (find (isSet records) (taskSpares 0 n))
-    ∷ 6 at offset (find (isSet records) (coreSpares (10 * n) c))
+    ∷ 6 at offset (find (isSet records) (coreSpares grouped (10 * n) c))
     ∷ []
 
--- 7 Period, 8 Budget, 9 Core, each at the first task by number
-unfoldable pub taskRows : Figures → List Row
-taskRows f =
+-- 7 Period and 8 Budget, each at the first task by position, 23 Order, 9 Core at the first task
+unfoldable pub taskRows : Bool → Figures → List Row
+taskRows misordered f =
     7 at find (badPeriod (f .period)) (numbers 0 (f .tasks))
     ∷ 8 at find (badBudget (f .period) (f .budget)) (numbers 0 (f .tasks))
+    ∷ 23 at whole misordered
     ∷ 9 at find (badCore (f .cores) (f .core)) (numbers 0 (f .tasks))
     ∷ []
 
--- 10 Bare at the first core, 11 Factor at the first task and then at the first core, 12 Stretch at the first task, all by number
+-- 10 Bare at the first core, 11 Factor at the first task and then at the first core, 12 Stretch at the first task
 unfoldable pub coreRows : Figures → List Row
 coreRows f =
     10 at core (find (bare (f .tasks) (f .core)) (numbers 0 (f .cores)))
@@ -55,12 +56,18 @@ coreRows f =
 unfoldable pub fitRows : Figures → List Row
 fitRows f = 13 at findSome (chainBreakOn f) (numbers 0 (f .cores)) ∷ 14 at core (find (overloadedOn f) (numbers 0 (f .cores))) ∷ []
 
--- rules 7 to 14
-unfoldable pub recordRows : Figures → List Row
-recordRows f = taskRows f ++ (coreRows f ++ fitRows f)
+-- rules 7 to 14 and 23
+unfoldable pub recordRows : Bool → Figures → List Row
+recordRows misordered f = taskRows misordered f ++ (coreRows f ++ fitRows f)
+
+-- the same, of the part from byte 8
+unfoldable pub partRows : Bool → ℕ → ℕ → List ℕ → List Row
+partRows grouped n c records =
+    let f : Figures = positionedIn grouped n c records in
+    recordRows (badOrder grouped f records) f
 
 -- the whole table, of any bytes
 unfoldable pub rules : List ℕ → List Row
 rules s =
     frameRows s
-    ++ (spareRows (taskCount s) (coreCount s) s (drop 8 s) ++ recordRows (figuresIn (taskCount s) (coreCount s) (drop 8 s)))
+    ++ (spareRows (isGrouped s) (taskCount s) (coreCount s) s (drop 8 s) ++ partRows (isGrouped s) (taskCount s) (coreCount s) (drop 8 s))

@@ -4,6 +4,8 @@ use mathlib.Core.List.{List, _++_}
 use Rattle.sheet.specs.Table.{Row}
 use lib.Dec.{ltb, eqb}
 use Rattle.fit.specs.Answers.{loadInRange}
+use Rattle.fit.specs.Priority.{Above}
+use mathlib.Core.Path.{_≡_}
 use mathlib.Core.Bool.{Bool, cond, not, _||_}
 use mathlib.Core.Option.{Option, none, some}
 use Rattle.sheet.specs.Ranges.{badPeriod, badBudget}
@@ -39,13 +41,17 @@ unfoldable pub soundAt : Figures → ℕ → Bool
 soundAt f i =
     not ((badPeriod (f .period) i || badBudget (f .period) (f .budget) i || (badCore (f .cores) (f .core) i || badFactor (f .factor) i)) || stretchedAt f i)
 
--- rules 7 to 12 of the table
-unfoldable pub earlyRows : Figures → List Row
-earlyRows f = taskRows f ++ coreRows f
+-- rules 7 to 12 and 23 of the table
+unfoldable pub earlyRows : Bool → Figures → List Row
+earlyRows misordered f = taskRows misordered f ++ coreRows f
 
 -- load above one, by the sum that the code makes with last factor L
 unfoldable pub overInRange : (ℕ → ℕ) → (ℕ → ℕ) → ℕ → ℕ → ℕ → List ℕ → Bool
 overInRange e M Q D L l = ltb (Q * L) (loadInRange e M D L l)
+
+-- the positions on each core rise in priority, so that they need no sort
+unfoldable pub Sorted : Figures → Type 0
+Sorted f = (i j : ℕ) → i < j → j < f .tasks → f .core i ≡ f .core j → Above (f .period) i j
 
 -- what rule 14's sum needs of core k: at most 64 tasks, D and every M at most 120,000
 pub record InRange (f : Figures) (k : ℕ) : Type 0 where

@@ -1,16 +1,23 @@
--- When each rule is broken, at a task i or a core k (docs/SHEET.md, section 4). M and the core are by task number, Q and D by core number.
-use Prim.Native.Nat.{ℕ, zero, suc, _+_}
+-- When each rule is broken, at a task i or a core k (docs/SHEET.md, sections 4 and 12). M and the core are by position, Q and D by core
+-- number.
+use Prim.Native.Nat.{ℕ, zero, suc, _+_, _*_}
 use mathlib.Core.Bool.{Bool, true, false, not, _&&_, _||_}
 use mathlib.Core.Option.{Option, none, some}
 use mathlib.Core.List.{List, [], _∷_}
-use lib.ListN.{getD}
+use lib.ListN.{getD, drop}
 use lib.Dec.{leb, eqb}
 use Rattle.sheet.specs.Ranges.{outOf}
-use Rattle.sheet.specs.Records.{Figures}
+use Rattle.sheet.specs.Records.{Figures, numberAt, countAt}
+use Rattle.sheet.specs.Views.{version, isGrouped}
 use Rattle.fit.specs.Lists.{numbers, find}
 use Rattle.fit.specs.Priority.{isOn}
 use Rattle.fit.specs.Fits.{stretched, chainBreak, overloaded}
 use Rattle.fit.specs.Cores.{orderOn}
+use Rattle.views.specs.Order.{misordered}
+
+-- 3 Version: the version is not 1 or 2
+unfoldable pub badVersion : List ℕ → Bool
+badVersion s = not (eqb (version s) 1 || isGrouped s)
 
 -- the first three bytes are the letters T S H
 unfoldable pub isMarked : List ℕ → Bool
@@ -21,14 +28,20 @@ unfoldable pub taskSpares : ℕ → ℕ → List ℕ
 taskSpares a zero = []
 taskSpares a (suc n) = (a + 5) ∷ taskSpares (a + 10) n
 
--- the offsets of the spare bytes of c core records from offset a on: bytes 2 and 3 of each
-unfoldable pub coreSpares : ℕ → ℕ → List ℕ
-coreSpares a zero = []
-coreSpares a (suc c) = (a + 2) ∷ (a + 3) ∷ coreSpares (a + 8) c
+-- the offsets of the spare bytes of c core records from offset a on: bytes 2 and 3 of each, in version 2 byte 3
+unfoldable pub coreSpares : Bool → ℕ → ℕ → List ℕ
+coreSpares grouped a zero = []
+coreSpares true a (suc c) = (a + 3) ∷ coreSpares true (a + 8) c
+coreSpares false a (suc c) = (a + 2) ∷ (a + 3) ∷ coreSpares false (a + 8) c
 
 -- 6 Spare: the byte at an offset is not zero
 unfoldable pub isSet : List ℕ → ℕ → Bool
 isSet s at = not (eqb (getD s at 0) 0)
+
+-- 23 Order: the records of a version 2 sheet, the part from byte 8, are not in its order
+unfoldable pub badOrder : Bool → Figures → List ℕ → Bool
+badOrder grouped f records =
+    grouped && misordered (f .period) (numberAt records) (f .core) (countAt (drop (10 * f .tasks) records)) (f .tasks) (f .cores)
 
 -- 9 Core: the core of task i is not below c
 unfoldable pub badCore : ℕ → (ℕ → ℕ) → ℕ → Bool

@@ -1,11 +1,11 @@
-// Rules 7 to 12: the figures of tasks and cores.
+// Rules 7 to 12 and 23: the figures of tasks and cores.
 ghost use mathlib.Core.Path.{_≡_};
 ghost use mathlib.Core.Bool.{true};
 ghost use Prim.Native.Nat.{ℕ, _<_};
 ghost use Rattle.sheet.specs.Table.{scan, foundOf, findingOf};
 ghost use Rattle.sheet.specs.Ranges.{badPeriod, badBudget};
-ghost use Rattle.sheet.specs.Records.{periodAt, budgetAt, coreAt, factorAt, pivotAt, divisorAt, figuresOf};
-ghost use Rattle.fit.specs.Lists.{numbers, find};
+ghost use Rattle.sheet.specs.Records.{periodAt, budgetAt, factorAt, pivotAt, divisorAt, figuresWith};
+ghost use Rattle.fit.specs.Lists.{numbers, find, at};
 ghost use Rattle.checker.specs.Tests.{badCore, bare, badFactor, badPivot, stretchedAt};
 ghost use Rattle.checker.specs.Rules.{taskRows, coreRows};
 ghost use Rattle.checker.specs.Steps.{broken, soundAt, earlyRows};
@@ -24,7 +24,8 @@ enum Test {
     Stretch,
 }
 
-// The tests, each at one task or one core. `tasks` is the sheet's part from byte 8, `cores` its part after the last task.
+// The tests, each at one task or one core. `tasks` is the sheet's part from byte 8, `cores` its part after the last task, `on` the core
+// of each position.
 
 fn bad_period(tasks: &[u8], i: u8) -> bool
     ensures { λ r. ⌜ r ≡ badPeriod (periodAt (now (tasks .entry))) i ⌝ }
@@ -40,18 +41,18 @@ fn bad_budget(tasks: &[u8], i: u8) -> bool
     sheet::out_of(p as u32, e as u32)
 }
 
-fn bad_core(tasks: &[u8], c: u8, i: u8) -> bool
-    ensures { λ r. ⌜ r ≡ badCore c (coreAt (now (tasks .entry))) i ⌝ }
+fn bad_core(on: &[u8], c: u8, i: u8) -> bool
+    ensures { λ r. ⌜ r ≡ badCore c (at (now (on .entry))) i ⌝ }
 {
-    c <= sheet::core(tasks, i)
+    c <= sheet::byte(on, i as usize)
 }
 
-fn is_bare(tasks: &[u8], n: u8, k: u8) -> bool
-    ensures { λ r. ⌜ r ≡ bare n (coreAt (now (tasks .entry))) k ⌝ }
+fn is_bare(on: &[u8], n: u8, k: u8) -> bool
+    ensures { λ r. ⌜ r ≡ bare n (at (now (on .entry))) k ⌝ }
 {
     let mut i = 0;
     while i < n {
-        if sheet::core(tasks, i) == k {
+        if sheet::byte(on, i as usize) == k {
             return false;
         }
         i += 1;
@@ -73,36 +74,36 @@ fn bad_pivot(cores: &[u8], k: u8) -> bool
     q | d
 }
 
-fn is_stretched(tasks: &[u8], cores: &[u8], n: u8, c: u8, i: u8) -> bool
-    ensures { λ r. ⌜ r ≡ stretchedAt (figuresOf n c (now (tasks .entry)) (now (cores .entry))) i ⌝ }
+fn is_stretched(tasks: &[u8], cores: &[u8], on: &[u8], n: u8, c: u8, i: u8) -> bool
+    ensures { λ r. ⌜ r ≡ stretchedAt (figuresWith (at (now (on .entry))) n c (now (tasks .entry)) (now (cores .entry))) i ⌝ }
 {
-    let k = sheet::core(tasks, i);
+    let k = sheet::byte(on, i as usize);
     let reach = fit::product(sheet::pivot(cores, k), sheet::factor(tasks, i));
     fit::product(sheet::period(tasks, i), sheet::divisor(cores, k)) < reach
 }
 
 // Whether a rule is broken at a task or core.
-fn is_broken(test: Test, tasks: &[u8], cores: &[u8], n: u8, c: u8, i: u8) -> bool
-    ensures { λ r. ⌜ r ≡ broken test (figuresOf n c (now (tasks .entry)) (now (cores .entry))) i ⌝ }
+fn is_broken(test: Test, tasks: &[u8], cores: &[u8], on: &[u8], n: u8, c: u8, i: u8) -> bool
+    ensures { λ r. ⌜ r ≡ broken test (figuresWith (at (now (on .entry))) n c (now (tasks .entry)) (now (cores .entry))) i ⌝ }
 {
     match test {
         Test::Period => bad_period(tasks, i),
         Test::Budget => bad_budget(tasks, i),
-        Test::Core => bad_core(tasks, c, i),
-        Test::Bare => is_bare(tasks, n, i),
+        Test::Core => bad_core(on, c, i),
+        Test::Bare => is_bare(on, n, i),
         Test::Factor => bad_factor(tasks, i),
         Test::Pivot => bad_pivot(cores, i),
-        Test::Stretch => is_stretched(tasks, cores, n, c, i),
+        Test::Stretch => is_stretched(tasks, cores, on, n, c, i),
     }
 }
 
 // The first of `end` tasks or cores at which a rule is broken.
-fn first(test: Test, tasks: &[u8], cores: &[u8], n: u8, c: u8, end: u8) -> Found
-    ensures { λ r. ⌜ foundOf r ≡ find (broken test (figuresOf n c (now (tasks .entry)) (now (cores .entry)))) (numbers 0 end) ⌝ }
+fn first(test: Test, tasks: &[u8], cores: &[u8], on: &[u8], n: u8, c: u8, end: u8) -> Found
+    ensures { λ r. ⌜ foundOf r ≡ find (broken test (figuresWith (at (now (on .entry))) n c (now (tasks .entry)) (now (cores .entry)))) (numbers 0 end) ⌝ }
 {
     let mut i = 0;
     while i < end {
-        if is_broken(test, tasks, cores, n, c, i) {
+        if is_broken(test, tasks, cores, on, n, c, i) {
             return Found::At(i);
         }
         i += 1;
@@ -110,19 +111,22 @@ fn first(test: Test, tasks: &[u8], cores: &[u8], n: u8, c: u8, end: u8) -> Found
     Found::Nothing
 }
 
-// Rules 7 to 9.
-fn task_rules(tasks: &[u8], cores: &[u8], n: u8, c: u8) -> Finding
-    ensures { λ r. ⌜ findingOf r ≡ scan (taskRows (figuresOf n c (now (tasks .entry)) (now (cores .entry)))) ⌝ }
+// Rules 7, 8, 23 and 9.
+fn task_rules(tasks: &[u8], cores: &[u8], on: &[u8], n: u8, c: u8, misordered: bool) -> Finding
+    ensures { λ r. ⌜ findingOf r ≡ scan (taskRows misordered (figuresWith (at (now (on .entry))) n c (now (tasks .entry)) (now (cores .entry)))) ⌝ }
 {
-    let period = first(Test::Period, tasks, cores, n, c, n);
+    let period = first(Test::Period, tasks, cores, on, n, c, n);
     if let Found::At(i) = period {
         return Finding::Broken(Refusal::Period, i as u16);
     }
-    let budget = first(Test::Budget, tasks, cores, n, c, n);
+    let budget = first(Test::Budget, tasks, cores, on, n, c, n);
     if let Found::At(i) = budget {
         return Finding::Broken(Refusal::Budget, i as u16);
     }
-    let core = first(Test::Core, tasks, cores, n, c, n);
+    if misordered {
+        return Finding::Broken(Refusal::Order, 0);
+    }
+    let core = first(Test::Core, tasks, cores, on, n, c, n);
     if let Found::At(i) = core {
         return Finding::Broken(Refusal::Core, i as u16);
     }
@@ -130,22 +134,22 @@ fn task_rules(tasks: &[u8], cores: &[u8], n: u8, c: u8) -> Finding
 }
 
 // Rules 10 to 12.
-fn core_rules(tasks: &[u8], cores: &[u8], n: u8, c: u8) -> Finding
-    ensures { λ r. ⌜ findingOf r ≡ scan (coreRows (figuresOf n c (now (tasks .entry)) (now (cores .entry)))) ⌝ }
+fn core_rules(tasks: &[u8], cores: &[u8], on: &[u8], n: u8, c: u8) -> Finding
+    ensures { λ r. ⌜ findingOf r ≡ scan (coreRows (figuresWith (at (now (on .entry))) n c (now (tasks .entry)) (now (cores .entry)))) ⌝ }
 {
-    let bare = first(Test::Bare, tasks, cores, n, c, c);
+    let bare = first(Test::Bare, tasks, cores, on, n, c, c);
     if let Found::At(k) = bare {
         return Finding::Broken(Refusal::Bare, 64 + (k as u16));
     }
-    let factor = first(Test::Factor, tasks, cores, n, c, n);
+    let factor = first(Test::Factor, tasks, cores, on, n, c, n);
     if let Found::At(i) = factor {
         return Finding::Broken(Refusal::Factor, i as u16);
     }
-    let pivot = first(Test::Pivot, tasks, cores, n, c, c);
+    let pivot = first(Test::Pivot, tasks, cores, on, n, c, c);
     if let Found::At(k) = pivot {
         return Finding::Broken(Refusal::Factor, 64 + (k as u16));
     }
-    let stretch = first(Test::Stretch, tasks, cores, n, c, n);
+    let stretch = first(Test::Stretch, tasks, cores, on, n, c, n);
     if let Found::At(i) = stretch {
         return Finding::Broken(Refusal::Stretch, i as u16);
     }
@@ -153,21 +157,21 @@ fn core_rules(tasks: &[u8], cores: &[u8], n: u8, c: u8) -> Finding
 }
 
 // Whether rules 7, 8, 9, 11 and 12 are all kept at task i.
-fn is_sound(tasks: &[u8], cores: &[u8], n: u8, c: u8, i: u8) -> bool
-    ensures { λ r. ⌜ r ≡ soundAt (figuresOf n c (now (tasks .entry)) (now (cores .entry))) i ⌝ }
+fn is_sound(tasks: &[u8], cores: &[u8], on: &[u8], n: u8, c: u8, i: u8) -> bool
+    ensures { λ r. ⌜ r ≡ soundAt (figuresWith (at (now (on .entry))) n c (now (tasks .entry)) (now (cores .entry))) i ⌝ }
 {
     let ranges = bad_period(tasks, i) | bad_budget(tasks, i);
-    let figures = bad_core(tasks, c, i) | bad_factor(tasks, i);
-    !((ranges | figures) | is_stretched(tasks, cores, n, c, i))
+    let figures = bad_core(on, c, i) | bad_factor(tasks, i);
+    !((ranges | figures) | is_stretched(tasks, cores, on, n, c, i))
 }
 
 // Whether they are kept at every task.
-fn all_sound(tasks: &[u8], cores: &[u8], n: u8, c: u8) -> bool
-    ensures { λ r. ⌜ (r ≡ true → (i : ℕ) → i < n → soundAt (figuresOf n c (now (tasks .entry)) (now (cores .entry))) i ≡ true) ⌝ }
+fn all_sound(tasks: &[u8], cores: &[u8], on: &[u8], n: u8, c: u8) -> bool
+    ensures { λ r. ⌜ (r ≡ true → (i : ℕ) → i < n → soundAt (figuresWith (at (now (on .entry))) n c (now (tasks .entry)) (now (cores .entry))) i ≡ true) ⌝ }
 {
     let mut i = 0;
     while i < n {
-        if !is_sound(tasks, cores, n, c, i) {
+        if !is_sound(tasks, cores, on, n, c, i) {
             return false;
         }
         i += 1;
@@ -176,31 +180,41 @@ fn all_sound(tasks: &[u8], cores: &[u8], n: u8, c: u8) -> bool
 }
 
 // Rules 10 to 12 where every task keeps its rules: 10 and 11 at the cores are left.
-fn bare_rules(tasks: &[u8], cores: &[u8], n: u8, c: u8) -> Finding
-    requires { ⌜ ((i : ℕ) → i < n → soundAt (figuresOf n c (now tasks) (now cores)) i ≡ true) ⌝ }
-    ensures { λ r. ⌜ findingOf r ≡ scan (coreRows (figuresOf n c (now (tasks .entry)) (now (cores .entry)))) ⌝ }
+fn bare_rules(tasks: &[u8], cores: &[u8], on: &[u8], n: u8, c: u8) -> Finding
+    requires { ⌜ ((i : ℕ) → i < n → soundAt (figuresWith (at (now on)) n c (now tasks) (now cores)) i ≡ true) ⌝ }
+    ensures { λ r. ⌜ findingOf r ≡ scan (coreRows (figuresWith (at (now (on .entry))) n c (now (tasks .entry)) (now (cores .entry)))) ⌝ }
 {
-    let bare = first(Test::Bare, tasks, cores, n, c, c);
+    let bare = first(Test::Bare, tasks, cores, on, n, c, c);
     if let Found::At(k) = bare {
         return Finding::Broken(Refusal::Bare, 64 + (k as u16));
     }
-    let pivot = first(Test::Pivot, tasks, cores, n, c, c);
+    let pivot = first(Test::Pivot, tasks, cores, on, n, c, c);
     if let Found::At(k) = pivot {
         return Finding::Broken(Refusal::Factor, 64 + (k as u16));
     }
     Finding::Clear
 }
 
-// Rules 7 to 12. Most sheets keep all rules at their tasks: one pass tells.
-pub(crate) fn early_rules(tasks: &[u8], cores: &[u8], n: u8, c: u8) -> Finding
-    ensures { λ r. ⌜ findingOf r ≡ scan (earlyRows (figuresOf n c (now (tasks .entry)) (now (cores .entry)))) ⌝ }
+// Rules 7 to 12 and 23. Most sheets keep all rules at their tasks: one pass tells.
+pub(crate) fn early_rules(
+    tasks: &[u8],
+    cores: &[u8],
+    on: &[u8],
+    n: u8,
+    c: u8,
+    misordered: bool,
+) -> Finding
+    ensures { λ r. ⌜ findingOf r ≡ scan (earlyRows misordered (figuresWith (at (now (on .entry))) n c (now (tasks .entry)) (now (cores .entry)))) ⌝ }
 {
-    if all_sound(tasks, cores, n, c) {
-        return bare_rules(tasks, cores, n, c);
+    if all_sound(tasks, cores, on, n, c) {
+        if misordered {
+            return Finding::Broken(Refusal::Order, 0);
+        }
+        return bare_rules(tasks, cores, on, n, c);
     }
-    let found = task_rules(tasks, cores, n, c);
+    let found = task_rules(tasks, cores, on, n, c, misordered);
     if let Finding::Broken(_, _) = found {
         return found;
     }
-    core_rules(tasks, cores, n, c)
+    core_rules(tasks, cores, on, n, c)
 }

@@ -1,13 +1,17 @@
 // Rules 13 and 14: the chain and the load of each core.
 ghost use mathlib.Core.Path.{_≡_};
+ghost use mathlib.Core.Bool.{true};
 ghost use Prim.Native.Nat.{ℕ, _<_, min};
 ghost use Rattle.sheet.specs.Table.{scan, findingOf};
-ghost use Rattle.sheet.specs.Records.{periodAt, budgetAt, factorAt, pivotAt, divisorAt, figuresOf};
-ghost use Rattle.fit.specs.Answers.{Column};
+ghost use Rattle.sheet.specs.Records.{periodAt, budgetAt, factorAt, pivotAt, divisorAt, figuresWith};
+ghost use Rattle.fit.specs.Lists.{at};
+ghost use Rattle.fit.specs.Priority.{order, Above};
+ghost use Rattle.fit.specs.Answers.{Column, Ordered};
 ghost use Rattle.checker.specs.Tests.{chainBreakOn, overloadedOn};
 ghost use Rattle.checker.specs.Rules.{fitRows};
-ghost use Rattle.checker.specs.Steps.{judged, overInRange, InRange, firstOver};
+ghost use Rattle.checker.specs.Steps.{judged, overInRange, Sorted, InRange, firstOver};
 use fit::Chain;
+use fit::Order;
 use sheet::Finding;
 use sheet::Refusal;
 
@@ -25,12 +29,32 @@ fn is_over(tasks: &[u8], cores: &[u8], list: &[u8], k: u8, last: u32) -> bool
     fit::product(sheet::pivot(cores, k), last) < load
 }
 
-// Rules 13 and 14 at core k.
-fn judge(periods: &[u16], tasks: &[u8], cores: &[u8], n: u8, c: u8, k: u8) -> Judged
-    requires { ⌜ InRange (figuresOf n c (now tasks) (now cores)) k × Column (periodAt (now tasks)) (min n 64) (now periods) ⌝ }
-    ensures { λ r. ⌜ r ≡ judged (chainBreakOn (figuresOf n c (now (tasks .entry)) (now (cores .entry))) k) (overloadedOn (figuresOf n c (now (tasks .entry)) (now (cores .entry))) k) ⌝ }
+// The tasks of core k in priority order. Where the positions are sorted already, they are taken as they stand.
+fn order_of(sorted: bool, periods: &[u16], on: &[u8], n: u8, k: u8) -> Order
+    requires { ⌜ ((i j : ℕ) → sorted ≡ true → i < j → j < min n 64 → at (now on) i ≡ at (now on) j → Above (at (now periods)) i j) ⌝ }
+    ensures { λ r. ⌜ Ordered (order (at (now (periods .entry))) (at (now (on .entry))) k (min n 64)) r ⌝ }
 {
-    let order = fit::on_core(periods, tasks, n, k);
+    if sorted {
+        return views::positions_on(on, n, k);
+    }
+    fit::on_core(periods, on, n, k)
+}
+
+// Rules 13 and 14 at core k.
+fn judge(
+    sorted: bool,
+    periods: &[u16],
+    tasks: &[u8],
+    cores: &[u8],
+    on: &[u8],
+    n: u8,
+    c: u8,
+    k: u8,
+) -> Judged
+    requires { ⌜ InRange (figuresWith (at (now on)) n c (now tasks) (now cores)) k × Column (periodAt (now tasks)) (min n 64) (now periods) × (sorted ≡ true → Sorted (figuresWith (at (now on)) n c (now tasks) (now cores))) ⌝ }
+    ensures { λ r. ⌜ r ≡ judged (chainBreakOn (figuresWith (at (now (on .entry))) n c (now (tasks .entry)) (now (cores .entry))) k) (overloadedOn (figuresWith (at (now (on .entry))) n c (now (tasks .entry)) (now (cores .entry))) k) ⌝ }
+{
+    let order = order_of(sorted, periods, on, n, k);
     let count = order.count;
     let list = order.tasks;
     let chain = fit::chain_of(tasks, &list[..count]);
@@ -55,15 +79,22 @@ fn first_over(found: u8, k: u8, over: bool) -> u8
 }
 
 // Rules 13 and 14. A broken chain of any core comes before every overload.
-pub(crate) fn fit_rules(tasks: &[u8], cores: &[u8], n: u8, c: u8) -> Finding
-    requires { ⌜ ((k : ℕ) → k < c → InRange (figuresOf n c (now tasks) (now cores)) k) ⌝ }
-    ensures { λ r. ⌜ findingOf r ≡ scan (fitRows (figuresOf n c (now (tasks .entry)) (now (cores .entry)))) ⌝ }
+pub(crate) fn fit_rules(
+    sorted: bool,
+    tasks: &[u8],
+    cores: &[u8],
+    on: &[u8],
+    n: u8,
+    c: u8,
+) -> Finding
+    requires { ⌜ ((k : ℕ) → k < c → InRange (figuresWith (at (now on)) n c (now tasks) (now cores)) k) × (sorted ≡ true → Sorted (figuresWith (at (now on)) n c (now tasks) (now cores))) ⌝ }
+    ensures { λ r. ⌜ findingOf r ≡ scan (fitRows (figuresWith (at (now (on .entry))) n c (now (tasks .entry)) (now (cores .entry)))) ⌝ }
 {
     let periods = fit::periods_of(tasks, 10, n);
     let mut found = 255;
     let mut k = 0;
     while k < c {
-        let judged = judge(&periods, tasks, cores, n, c, k);
+        let judged = judge(sorted, &periods, tasks, cores, on, n, c, k);
         match judged {
             Judged::Unchained(i) => {
                 return Finding::Broken(Refusal::Chain, i as u16);

@@ -6,10 +6,9 @@ ghost use lib.ListN.{length};
 ghost use lib.Dec.{ltb, eqb};
 ghost use mathlib.Core.List.{[], _∷_};
 ghost use Rattle.sheet.specs.Table.{_at_, scan, findingOf};
-ghost use Rattle.sheet.specs.Numbers.{word};
 ghost use Rattle.sheet.specs.Records.{taskCount, coreCount};
 ghost use Rattle.fit.specs.Lists.{find};
-ghost use Rattle.checker.specs.Tests.{isMarked, taskSpares, coreSpares, isSet};
+ghost use Rattle.checker.specs.Tests.{isMarked, badVersion, taskSpares, coreSpares, isSet};
 ghost use Rattle.checker.specs.Rules.{frameRows, spareRows, offset};
 use sheet::Finding;
 use sheet::Refusal;
@@ -32,9 +31,10 @@ fn is_unmarked(sheet: &[u8]) -> bool
 }
 
 fn is_other_version(sheet: &[u8]) -> bool
-    ensures { λ r. ⌜ r ≡ not (eqb (word (now (sheet .entry)) 3) 1) ⌝ }
+    ensures { λ r. ⌜ r ≡ badVersion (now (sheet .entry)) ⌝ }
 {
-    sheet::read_word(sheet, 3) != 1
+    let version = sheet::read_word(sheet, 3);
+    !((version == 1) | (version == 2))
 }
 
 fn is_over_count(sheet: &[u8]) -> bool
@@ -91,13 +91,14 @@ fn task_spares(records: &[u8], n: u8) -> Finding
     Finding::Clear
 }
 
-fn core_spares(records: &[u8], n: u8, c: u8) -> Finding
-    ensures { λ r. ⌜ findingOf r ≡ scan (6 at offset (find (isSet (now (records .entry))) (coreSpares (10 * n) c)) ∷ []) ⌝ }
+// Bytes 2 and 3 of each core record, in version 2 byte 3 alone.
+fn core_spares(records: &[u8], n: u8, c: u8, grouped: bool) -> Finding
+    ensures { λ r. ⌜ findingOf r ≡ scan (6 at offset (find (isSet (now (records .entry))) (coreSpares grouped (10 * n) c)) ∷ []) ⌝ }
 {
     let mut at = 10 * (n as usize);
     let mut k = 0;
     while k < c {
-        if sheet::byte(records, at + 2) != 0 {
+        if !grouped & (sheet::byte(records, at + 2) != 0) {
             return Finding::Broken(Refusal::Spare, 8 + (at + 2) as u16);
         }
         if sheet::byte(records, at + 3) != 0 {
@@ -109,8 +110,8 @@ fn core_spares(records: &[u8], n: u8, c: u8) -> Finding
     Finding::Clear
 }
 
-pub(crate) fn spare_rules(sheet: &[u8], records: &[u8], n: u8, c: u8) -> Finding
-    ensures { λ r. ⌜ findingOf r ≡ scan (spareRows n c (now (sheet .entry)) (now (records .entry))) ⌝ }
+pub(crate) fn spare_rules(sheet: &[u8], records: &[u8], n: u8, c: u8, grouped: bool) -> Finding
+    ensures { λ r. ⌜ findingOf r ≡ scan (spareRows grouped n c (now (sheet .entry)) (now (records .entry))) ⌝ }
 {
     if sheet::byte(sheet, 7) != 0 {
         return Finding::Broken(Refusal::Spare, 7);
@@ -119,5 +120,5 @@ pub(crate) fn spare_rules(sheet: &[u8], records: &[u8], n: u8, c: u8) -> Finding
     if let Finding::Broken(_, _) = found {
         return found;
     }
-    core_spares(records, n, c)
+    core_spares(records, n, c, grouped)
 }

@@ -1,13 +1,17 @@
-// The checker: rules 1 to 14 (docs/SHEET.md, section 4) over any bytes.
+// The checker: rules 1 to 14 and 23 (docs/SHEET.md, sections 4 and 12) over any bytes.
 mod early;
 mod fits;
 mod frame;
 
 ghost use mathlib.Core.Path.{_≡_};
-ghost use Prim.Native.Nat.{_≤_};
+ghost use mathlib.Core.Bool.{_&&_};
+ghost use Prim.Native.Nat.{_*_, _≤_};
+ghost use lib.ListN.{length};
 ghost use Rattle.sheet.specs.Table.{scan, findingOf};
-ghost use Rattle.sheet.specs.Records.{figuresOf};
-ghost use Rattle.checker.specs.Rules.{recordRows, rules};
+ghost use Rattle.sheet.specs.Records.{periodAt, numberAt, countAt};
+ghost use Rattle.fit.specs.Lists.{at};
+ghost use Rattle.views.specs.Order.{misordered};
+ghost use Rattle.checker.specs.Rules.{partRows, rules};
 ghost use Rattle.checker.specs.Verdict.{verdict, outcome, outcomeOf};
 use sheet::Finding;
 use sheet::Refusal;
@@ -18,19 +22,33 @@ pub enum Verdict {
     Refused { word: Refusal, place: u16 },
 }
 
-// Rules 7 to 14.
-fn record_rules(tasks: &[u8], cores: &[u8], n: u8, c: u8) -> Finding
-    requires { ⌜ n ≤ 64 ⌝ }
-    ensures { λ r. ⌜ findingOf r ≡ scan (recordRows (figuresOf n c (now (tasks .entry)) (now (cores .entry)))) ⌝ }
+// Whether the records of a version 2 sheet are not in its order.
+fn is_misordered(grouped: bool, tasks: &[u8], cores: &[u8], on: &[u8], n: u8, c: u8) -> bool
+    ensures { λ r. ⌜ r ≡ (grouped && misordered (periodAt (now (tasks .entry))) (numberAt (now (tasks .entry))) (at (now (on .entry))) (countAt (now (cores .entry))) n c) ⌝ }
 {
-    let found = early::early_rules(tasks, cores, n, c);
+    if grouped {
+        return views::is_misordered(tasks, cores, on, n, c);
+    }
+    false
+}
+
+// Rules 7 to 14 and 23. `records` is the sheet's part from byte 8.
+fn record_rules(grouped: bool, records: &[u8], n: u8, c: u8) -> Finding
+    requires { ⌜ (n ≤ 64) × (10 * n ≤ length (now records)) ⌝ }
+    ensures { λ r. ⌜ findingOf r ≡ scan (partRows grouped n c (now (records .entry))) ⌝ }
+{
+    let at = 10 * (n as usize);
+    let cores = &records[at..];
+    let on = views::cores_of(grouped, records, cores, n, c);
+    let misordered = is_misordered(grouped, records, cores, &on, n, c);
+    let found = early::early_rules(records, cores, &on, n, c, misordered);
     if let Finding::Broken(_, _) = found {
         return found;
     }
-    fits::fit_rules(tasks, cores, n, c)
+    fits::fit_rules(grouped, records, cores, &on, n, c)
 }
 
-// Rules 1 to 14.
+// Rules 1 to 14 and 23.
 fn all_rules(sheet: &[u8]) -> Finding
     ensures { λ r. ⌜ findingOf r ≡ scan (rules (now (sheet .entry))) ⌝ }
 {
@@ -40,13 +58,13 @@ fn all_rules(sheet: &[u8]) -> Finding
     }
     let n = sheet::byte(sheet, 5);
     let c = sheet::byte(sheet, 6);
+    let grouped = sheet::is_grouped(sheet);
     let records = &sheet[8..];
-    let found = frame::spare_rules(sheet, records, n, c);
+    let found = frame::spare_rules(sheet, records, n, c, grouped);
     if let Finding::Broken(_, _) = found {
         return found;
     }
-    let at = 10 * (n as usize);
-    record_rules(records, &records[at..], n, c)
+    record_rules(grouped, records, n, c)
 }
 
 // What the rules found, as an answer.

@@ -7,4 +7,5 @@ pub mod Outcomes
 pub mod Logs
 pub mod Schedule
 pub mod Starts
+pub mod Agree
 pub mod Refused

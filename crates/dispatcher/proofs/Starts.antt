@@ -1,13 +1,13 @@
 -- Each way out of the two starts, as the code returns it, and the on-time promise of a core that is started from a sheet. Of the checker
 -- they use what acceptance promises.
 -- Assumes nothing.
-use Prim.Native.Nat.{ℕ, _-_, _/_, _≤_, _<_}
+use Prim.Native.Nat.{ℕ, _-_, _*_, _/_, _≤_, _<_}
 use mathlib.Core.Path.{_≡_, sym, ap, subst, subst₂, _∙_, refl}
 use mathlib.Core.Option.{none, Option, some}
 use mathlib.Core.List.{List, []}
 use native.Mathlib.Omega.{arith}
 use lib.ListN.{length, take, drop, length-append, length-replicate, length-drop}
-use lib.Seq.{take-append-seam, take-all}
+use lib.Seq.{take-append-seam}
 use borrow.Author.Tests.{lt-ltb, le-ltb, ltb-true}
 use mir.Val.{Fits}
 use mir.Syntax.{w8}
@@ -18,19 +18,19 @@ use Rattle.sheet.specs.declared.Refusal.the-variants.{Core as NoCore}
 use Rattle.sheet.specs.declared.Finding.{Finding}
 use Rattle.sheet.specs.declared.Finding.the-variants.{Clear, Broken}
 use Rattle.sheet.specs.Table.{scan, findingOf, Refused}
-use Rattle.sheet.specs.Records.{periodAt, budgetAt, coreAt, figures}
+use Rattle.sheet.specs.Records.{periodAt, budgetAt}
+use Rattle.sheet.specs.Views.{isGrouped, numberOfPosition, positionedIn, byPosition, figures}
 use Rattle.fit.specs.declared.By.the-variants.{Period}
-use Rattle.fit.specs.Priority.{order}
 use Rattle.fit.specs.Ring.{orderBy}
 use Rattle.fit.proofs.Priority.{order-members, order-count, order-rising}
-use Rattle.fit.proofs.Lists.{each-of}
+use Rattle.fit.proofs.Lists.{part, each-of}
 use Rattle.checker.specs.declared.Verdict.{Verdict}
 use Rattle.checker.specs.declared.Verdict.the-variants.{Accepted as Passed, Refused as Rejected}
 use Rattle.fit.specs.Lists.{Each}
 use Rattle.fit.specs.Cores.{orderOn, withinOn}
 use Rattle.checker.specs.Verdict.{verdict, outcomeOf}
 use Rattle.checker.specs.Accepted.{CoreOf}
-use Rattle.checker.proofs.Acceptance.{core-of}
+use Rattle.checker.proofs.Views.{core-of}
 use Rattle.jobs.specs.Jobs.{jobCount, jobPeriod, jobBudget, listRows}
 use Rattle.jobs.proofs.Laws.{listed}
 use Rattle.timing.specs.declared.Task.{Task}
@@ -45,7 +45,8 @@ use Rattle.dispatcher.specs.State.{tasksOf, InForm}
 use Rattle.dispatcher.specs.Operations.{ask, step}
 use Rattle.dispatcher.specs.Starts.{freshTasks, stateOf, sheetAnswer, sheetTasks, sheetState, SheetStart, listAnswer, listState, ListStart, FreshCore}
 use Rattle.dispatcher.specs.OnTime.{Kept, Timely}
-use Rattle.dispatcher.specs.Steps.{refusal}
+use Rattle.dispatcher.specs.Steps.{freshBy, refusal}
+use Rattle.dispatcher.proofs.Starting.{fresh-renamed}
 use Rattle.dispatcher.proofs.Logs.{log-form, ask-run, never-foreign}
 use Rattle.dispatcher.proofs.Schedule.{schedule-form, schedule-on-time, schedule-by-period, schedule-by-history, all-fresh, fresh-form}
 use Rattle.checker.specs.Verdict as verdict
@@ -107,7 +108,7 @@ pub refused-timely : (s : List ℕ) (k : ℕ) (z : Core) (w : Refusal) (p : ℕ)
 refused-timely s k z w p r q = record { on-time = λ a. absurd (let n : _≡_ {A = ℕ} 0 1 = cc in omega arith) }
 
 module _ (s : List ℕ) (k : ℕ) (v : Verdict) (e : outcomeOf v ≡ verdict s) where
-  -- 1 to 14
+  -- 1 to 14 and 23
   pub sheet-refused : (w : Refusal) (p : ℕ) (z : Core) (r : Step) → v ≡ Rejected w p → z ≡ stateOf [] → r ≡ refusal z w p → SheetStart s k r
   unfolding sheetAnswer sheetState
   sheet-refused w p z r x y q =
@@ -133,13 +134,21 @@ module _ (s : List ℕ) (k : ℕ) (v : Verdict) (e : outcomeOf v ≡ verdict s) 
       pub sheet-few : n ≤ 64
       sheet-few = accepted-core .few
 
-      -- the fresh state of the core, as it is read from the part from byte 8
-      module _ (y : Core) (q : y ≡ stateOf (freshTasks (periodAt (take (length s - 8) (drop 8 s))) (budgetAt (take (length s - 8) (drop 8 s))) (order (periodAt (take (length s - 8) (drop 8 s))) (coreAt (take (length s - 8) (drop 8 s))) k n))) where
+      -- the part from byte 8, which holds the records of all tasks
+      abbrev records : List ℕ
+      records = take (length s - 8) (drop 8 s)
+
+      pub sheet-records : 10 * n ≤ length (take (length s - 8) (drop 8 s))
+      sheet-records = rw (part s 8) (simp length-drop (omega (arith, accepted-core .size)))
+
+      -- the fresh state of the core, as it is read from there by position
+      module _ (grouped : Bool) (y : Core) (g : grouped ≡ isGrouped s) (q : y ≡ stateOf (freshBy (periodAt records) (budgetAt records) (numberOfPosition grouped records) (orderOn (positionedIn grouped n c records) k))) where
         fresh : y ≡ stateOf (sheetTasks s k)
-        unfolding sheetTasks orderOn
+        unfolding sheetTasks
         fresh =
-            let whole : take (length s - 8) (drop 8 s) ≡ drop 8 s = take-all (length s - 8) (drop 8 s) (simp length-drop (omega arith)) in
-            q ∙ rw (whole, accepted-core .tasks)
+            q
+            ∙ rw (part s 8, g, accepted-core .tasks, accepted-core .cores)
+            (ap stateOf (sym (fresh-renamed (byPosition s) (figures s) (numberOfPosition (isGrouped s) (drop 8 s)) (accepted-core .views) k)))
 
         pub sheet-starts : SheetStart s k (record { answer = Accepted; core = y })
         unfolding sheetAnswer sheetState

@@ -2,7 +2,7 @@
 use Prim.Native.Nat.{ℕ, _≤_}
 use mathlib.Core.Path.{_≡_}
 use mathlib.Core.List.{List}
-use Rattle.sheet.specs.Records.{figures}
+use Rattle.sheet.specs.Views.{figures}
 use Rattle.fit.specs.Lists.{Each}
 use Rattle.fit.specs.Cores.{orderOn, withinOn}
 use Rattle.timing.specs.Calls.{Call, accepted, log}

@@ -7,7 +7,7 @@ use mathlib.Core.List.{List, [], _++_, map}
 use lib.ListN.{length, replicate}
 use lib.Dec.{ltb}
 use Rattle.sheet.specs.Table.{Refused, scan}
-use Rattle.sheet.specs.Records.{figures}
+use Rattle.sheet.specs.Views.{figures}
 use Rattle.fit.specs.declared.By.the-variants.{Period}
 use Rattle.fit.specs.Ring.{orderBy}
 use Rattle.fit.specs.Lists.{Each}
@@ -35,7 +35,7 @@ freshTasks p e l = map (λ i. freshTask (p i) (e i) i) l
 unfoldable pub stateOf : List Task → Core
 stateOf l = record { count = length l; tasks = l ++ replicate (64 - length l) noTask }
 
--- what a start of core k of a sheet answers: the refusal of the sheet (1 to 14), then 9 with place 0 where there is no such core
+-- what a start of core k of a sheet answers: the refusal of the sheet (1 to 14 and 23), then 9 with place 0 where there is no such core
 unfoldable pub sheetAnswer : verdict.Outcome → ℕ → Answer
 sheetAnswer (verdict.accepted n c) k = cond (ltb k c) accepted (refused 9 0)
 sheetAnswer (verdict.refused w p) k = refused w p

@@ -1,6 +1,7 @@
 -- What the code's own steps ask and give; no public contract speaks of it.
 use Prim.Native.Nat.{ℕ, _+_, _*_}
 use mathlib.Core.Bool.{cond}
+use mathlib.Core.List.{List, map}
 use lib.ListN.{set}
 use lib.Dec.{ltb}
 use Rattle.sheet.specs.declared.Refusal.{Refusal}
@@ -14,6 +15,11 @@ use Rattle.dispatcher.specs.declared.Spot.the-variants.{At, Refused as M
 use Rattle.dispatcher.specs.declared.Step.{Step}
 use Rattle.dispatcher.specs.declared.Answer.the-variants.{Accepted, Refused}
 use Rattle.dispatcher.specs.State.{tasksOf, foreign}
+use Rattle.dispatcher.specs.Starts.{freshTask}
+
+-- the tasks at the listed positions, fresh, with p, e and number by position
+unfoldable pub freshBy : (p e number : ℕ → ℕ) → List ℕ → List Task
+freshBy p e number l = map (λ j. freshTask (p j) (e j) (number j)) l
 
 -- a number that rises with the priority order of sound tasks
 abbrev pub rank : Task → ℕ

@@ -4,10 +4,11 @@ ghost use Prim.Native.Nat.{_+_, _*_, _<_, _≤_};
 ghost use mathlib.Core.List.{[], map};
 ghost use lib.ListN.{length, take};
 ghost use Rattle.sheet.specs.Numbers.{word};
-ghost use Rattle.sheet.specs.Records.{periodAt, budgetAt, coreAt};
-ghost use Rattle.fit.specs.Priority.{order};
+ghost use Rattle.sheet.specs.Records.{periodAt, budgetAt};
+ghost use Rattle.sheet.specs.Views.{numberOfPosition, positionedIn};
 ghost use Rattle.fit.specs.declared.By.the-variants.{Period};
 ghost use Rattle.fit.specs.Ring.{orderBy};
+ghost use Rattle.fit.specs.Cores.{orderOn};
 ghost use Rattle.jobs.specs.Jobs.{jobPeriod, jobBudget};
 ghost use Rattle.fit.specs.Lists.{placeOf};
 ghost use Rattle.timing.specs.Tasks.{pending, named, withJob, older};
@@ -16,7 +17,7 @@ ghost use Rattle.dispatcher.specs.State.{tasksOf, withTasks, sound, fore
 ghost use Rattle.dispatcher.specs.Operations.{Operation, Unaltered, ServesFirst};
 ghost use Rattle.dispatcher.specs.Starts.{freshTask, freshTasks, stateOf, SheetStart, ListStart};
 ghost use Rattle.dispatcher.specs.OnTime.{Timely};
-ghost use Rattle.dispatcher.specs.Steps.{rank, spot, changed, refusal, acceptance};
+ghost use Rattle.dispatcher.specs.Steps.{freshBy, rank, spot, changed, refusal, acceptance};
 use checker::Verdict;
 use fit::By;
 use fit::Order;
@@ -219,40 +220,44 @@ fn empty() -> Core
     }
 }
 
-// Record j of records of this size, which begin with period and budget, as a fresh task.
-fn fresh_at(records: &[u8], size: u8, j: u8) -> Task
-    ensures { λ r. ⌜ r ≡ freshTask (word (now (records .entry)) (size * j)) (word (now (records .entry)) (size * j + 2)) j ⌝ }
+// Record j of records of this size, which begin with period and budget, as a fresh task with a number.
+fn fresh_at(records: &[u8], size: u8, j: u8, number: u8) -> Task
+    ensures { λ r. ⌜ r ≡ freshTask (word (now (records .entry)) (size * j)) (word (now (records .entry)) (size * j + 2)) number ⌝ }
 {
     let at = sheet::offset(size, j);
     fresh(
         sheet::read_word(records, at),
         sheet::read_word(records, at + 2),
-        j,
+        number,
     )
 }
 
-// The fresh state of the tasks of an order, from records of this size.
-fn fresh_state(records: &[u8], size: u8, order: Order) -> Core
+// The fresh state of the records of an order, each of this size; `grouped` says that they are those of a version 2 sheet.
+fn fresh_state(grouped: bool, records: &[u8], size: u8, order: Order) -> Core
     requires { ⌜ (order .count ≤ 64) × (length (order .tasks) ≡ 64) ⌝ }
-    ensures { λ r. ⌜ r ≡ stateOf (freshTasks (λ i. word (now (records .entry)) (size * i)) (λ i. word (now (records .entry)) (size * i + 2)) (take (order .count) (order .tasks))) ⌝ }
+    ensures { λ r. ⌜ r ≡ stateOf (freshBy (λ i. word (now (records .entry)) (size * i)) (λ i. word (now (records .entry)) (size * i + 2)) (numberOfPosition grouped (now (records .entry))) (take (order .count) (order .tasks))) ⌝ }
 {
     let count = order.count;
     let mut core = empty();
     let mut i = 0;
     while i < count {
-        core.tasks[i] = fresh_at(records, size, order.tasks[i]);
+        let j = order.tasks[i];
+        core.tasks[i] = fresh_at(records, size, j, views::number_of(grouped, records, j));
         i += 1;
     }
     core.count = count;
     core
 }
 
-// The fresh state of core k of a sheet of n tasks. `tasks` is the sheet's part from byte 8.
-fn of_core(tasks: &[u8], n: u8, k: u8) -> Core
-    requires { ⌜ n ≤ 64 ⌝ }
-    ensures { λ r. ⌜ r ≡ stateOf (freshTasks (periodAt (now (tasks .entry))) (budgetAt (now (tasks .entry))) (order (periodAt (now (tasks .entry))) (coreAt (now (tasks .entry))) k n)) ⌝ }
+// The fresh state of core k of a sheet of n tasks and c cores. `records` is the sheet's part from byte 8.
+fn of_core(grouped: bool, records: &[u8], n: u8, c: u8, k: u8) -> Core
+    requires { ⌜ (n ≤ 64) × (10 * n ≤ length (now records)) ⌝ }
+    ensures { λ r. ⌜ r ≡ stateOf (freshBy (periodAt (now (records .entry))) (budgetAt (now (records .entry))) (numberOfPosition grouped (now (records .entry))) (orderOn (positionedIn grouped n c (now (records .entry))) k)) ⌝ }
 {
-    fresh_state(tasks, 10, fit::in_order(tasks, n, k))
+    let at = 10 * (n as usize);
+    let on = views::cores_of(grouped, records, &records[at..], n, c);
+    let periods = fit::periods_of(records, 10, n);
+    fresh_state(grouped, records, 10, fit::on_core(&periods, &on, n, k))
 }
 
 // The fresh state of a job list of n entries.
@@ -260,7 +265,7 @@ fn of_list(list: &[u8], n: u8) -> Core
     requires { ⌜ n ≤ 64 ⌝ }
     ensures { λ r. ⌜ r ≡ stateOf (freshTasks (jobPeriod (now (list .entry))) (jobBudget (now (list .entry))) (orderBy Period (jobPeriod (now (list .entry))) n)) ⌝ }
 {
-    fresh_state(list, 4, jobs::in_order(By::Period, list, n))
+    fresh_state(false, list, 4, jobs::in_order(By::Period, list, n))
 }
 
 fn refuse(core: Core, word: Refusal, place: u16) -> Step
@@ -292,7 +297,7 @@ fn accept(core: Core, at: usize, t: Task) -> Step
     }
 }
 
-// Starts a core from a sheet and a core number: 1 to 14, then 9 where there is no such core, else its fresh state.
+// Starts a core from a sheet of either version and a core number: 1 to 14 and 23, then 9 where there is no such core, else its fresh state.
 pub fn start_sheet(sheet: &[u8], core: u64) -> Step
     ensures { λ r. ⌜ SheetStart (now (sheet .entry)) core r ⌝ }
     ensures on_time { λ r. ⌜ Timely (now (sheet .entry)) core r ⌝ }
@@ -304,9 +309,10 @@ pub fn start_sheet(sheet: &[u8], core: u64) -> Step
             if (cores as u64) <= core {
                 return refuse(empty(), Refusal::Core, 0);
             }
+            let grouped = sheet::is_grouped(sheet);
             Step {
                 answer: Answer::Accepted,
-                core: of_core(&sheet[8..], tasks, core as u8),
+                core: of_core(grouped, &sheet[8..], tasks, cores, core as u8),
             }
         }
     }

@@ -5,7 +5,12 @@ pub mod Ceiling
 pub mod Priority
 pub mod Levels
 pub mod Finds
+pub mod Some
+pub mod Counting
 pub mod Rings
 pub mod Selecting
+pub mod Presorted
+pub mod Rising
+pub mod Laying
 pub mod Firsts
 pub mod Periodic

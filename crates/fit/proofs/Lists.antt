@@ -208,6 +208,12 @@ numbers-last a (suc n) =
     let e : suc a + n ≡ a + suc n = omega arith in
     ap (λ (t : List ℕ). a ∷ t) (rw (← e) (numbers-last (suc a) n))
 
+-- what holds of each of the n numbers from a up
+pub each-number : (P : ℕ → Type 0) (a n : ℕ) → ((i : ℕ) → a ≤ i → i < a + n → P i) → Each P (numbers a n)
+unfolding numbers Each
+each-number P a zero h = tt
+each-number P a (suc n) h = (h a (omega arith) (omega arith), each-number P (suc a) n (λ i b c. h i (omega arith) (omega arith)))
+
 pub sum-numbers : (f : ℕ → ℕ) (a n : ℕ) → sum f (numbers a (suc n)) ≡ sum f (numbers a n) + f (a + n)
 unfolding sum
 sum-numbers f a n = rw (numbers-last a n) (omega (arith, sum-append f (numbers a n) ((a + n) ∷ [])))

@@ -1,7 +1,7 @@
 -- Functions on lists, mostly of task or core numbers, in which the definitions are written (docs/SHEET.md, sections 3 to 8).
 use Prim.Native.Nat.{ℕ, zero, suc, _+_, _-_}
 use lib.Dec.{eqb}
-use mathlib.Core.Bool.{Bool, cond}
+use mathlib.Core.Bool.{Bool, false, cond, _||_}
 use mathlib.Core.Option.{Option, none, some}
 use mathlib.Core.List.{List, [], _∷_, _++_}
 use lib.ListN.{length, getD, drop, replicate}
@@ -23,6 +23,11 @@ numbers a (suc n) = a ∷ numbers (suc a) n
 unfoldable pub find : (ℕ → Bool) → List ℕ → Option ℕ
 find q [] = none
 find q (i ∷ l) = cond (q i) (some i) (find q l)
+
+-- some number below n passes a test
+unfoldable pub someBelow : (ℕ → Bool) → ℕ → Bool
+someBelow q zero = false
+someBelow q (suc n) = someBelow q n || q n
 
 -- how many of a list stand before the first that passes a test
 unfoldable pub placeOf : {A : Type 0} → (A → Bool) → List A → ℕ

@@ -2,6 +2,7 @@
 -- Assumes nothing.
 use Prim.Native.Nat.{ℕ, _*_, _/_, _≤_, _<_, min}
 use mathlib.Core.Path.{_≡_, ap, _∙_}
+use mathlib.Core.List.{List}
 use native.Mathlib.Omega.{arith}
 use native.Mathlib.Nat.{le-trans, mul-le-mul, mul-pos, div-le-of-le-mul}
 use borrow.Author.Tests.{le-leb}
@@ -12,12 +13,12 @@ use Rattle.sheet.specs.Records.{Figures}
 use Rattle.fit.specs.declared.Order.{Order}
 use Rattle.fit.specs.declared.Chain.{Chain}
 use Rattle.fit.specs.declared.Chain.the-variants.{Whole, Broken}
-use Rattle.fit.specs.Lists.{Each}
+use Rattle.fit.specs.Lists.{Each, at}
 use Rattle.fit.specs.Priority.{order}
 use Rattle.fit.specs.Fits.{lastFactor, load, within}
-use Rattle.fit.specs.Answers.{Ordered, chainAnswer, chained, loadInRange}
+use Rattle.fit.specs.Answers.{Column, Ordered, chainAnswer, chained, loadInRange}
 use Rattle.fit.proofs.Lists.{each-of}
-use Rattle.fit.proofs.Priority.{order-members, order-count}
+use Rattle.fit.proofs.Priority.{order-members, order-count, order-ext}
 use Rattle.fit.proofs.Levels.{multiples-chain, load-last, last-positive, within-period}
 use Rattle.fit.specs.Cores.{orderOn}
 use Rattle.checker.specs.Accepted.{Fitting, LoadAtMostOne}
@@ -57,12 +58,13 @@ module _ (f : Figures) (k : ℕ) (g : Fitting f) where
   pub last-above : 0 < lastFactor (f .factor) 1 (orderOn f k)
   last-above = last-positive (f .factor) 1 _ (omega arith) factors-above
 
-module _ (f : Figures) (k : ℕ) (o : Order) (chain : Chain) (g : Fitting f) (n : f .tasks ≤ 64) (h : k < f .cores) (s : Ordered (order (f .period) (f .core) k (min (f .tasks) 64)) o) (e : chain ≡ chained (f .factor) (take (o .count) (o .tasks))) where
+-- the order of a core, by a column of the periods
+module _ (f : Figures) (k : ℕ) (periods : List ℕ) (o : Order) (chain : Chain) (p : Column (f .period) (min (f .tasks) 64) periods) (g : Fitting f) (n : f .tasks ≤ 64) (h : k < f .cores) (s : Ordered (order (at periods) (f .core) k (min (f .tasks) 64)) o) (e : chain ≡ chained (f .factor) (take (o .count) (o .tasks))) where
   listed : take (o .count) (o .tasks) ≡ orderOn f k
   unfolding orderOn
   listed =
       let m : min (f .tasks) 64 ≡ f .tasks = omega arith in
-      s .tasks ∙ ap (order (f .period) (f .core) k) m
+      s .tasks ∙ order-ext (at periods) (f .period) (f .core) k _ (p .below) ∙ ap (order (f .period) (f .core) k) m
 
   whole : chain ≡ Whole (lastFactor (f .factor) 1 (orderOn f k))
   unfolding chained chainAnswer

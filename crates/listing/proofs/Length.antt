@@ -2,6 +2,7 @@
 -- Assumes nothing.
 use Prim.Native.Nat.{ℕ, zero, suc, _+_, _*_, _%_, _≤_, _<_, zero-le}
 use mathlib.Core.Path.{_≡_, refl, subst, _∙_}
+use mathlib.Core.Logic.{_⊎_, inl, inr}
 use mathlib.Core.Bool.{Bool, true, false, cond}
 use mathlib.Core.Option.{Option, none, some, Option·map, Option·none-ne-some, Option·some-injective}
 use mathlib.Core.List.{List, [], _∷_}
@@ -13,17 +14,19 @@ use lib.ListN.{length, getD, drop, length-append}
 use lib.Dec.{eqb}
 use Rattle.sheet.specs.Table.{Refused, Row, _at_, scan, whole, core}
 use Rattle.sheet.specs.Numbers.{word}
-use Rattle.sheet.specs.Records.{Figures, figures, taskCount, coreCount}
+use Rattle.sheet.specs.Records.{Figures, taskCount, coreCount}
+use Rattle.sheet.specs.Views.{isGrouped, positionedIn, figures}
 use Rattle.fit.specs.Lists.{numbers, find, orElse, findSome, Each, joined}
 use Rattle.fit.specs.Fits.{chainBreak}
 use Rattle.fit.proofs.Lists.{each-of, each-append, numbers-length}
 use Rattle.fit.proofs.Priority.{order-members}
 use Rattle.fit.specs.Cores.{orderOn, withinOn}
-use Rattle.checker.specs.Tests.{taskSpares, coreSpares, chainBreakOn}
-use Rattle.checker.specs.Rules.{offset, frameRows, spareRows, taskRows, coreRows, fitRows, recordRows, rules}
+use Rattle.checker.specs.Tests.{taskSpares, coreSpares, badOrder, chainBreakOn}
+use Rattle.checker.specs.Rules.{offset, frameRows, spareRows, taskRows, coreRows, fitRows, recordRows, partRows, rules}
 use Rattle.checker.specs.Accepted.{Acceptable, Fitting}
 use Rattle.checker.specs.Verdict.{refused, outcome, verdict}
 use Rattle.checker.proofs.Acceptance.{accepted-exactly}
+use Rattle.checker.proofs.Views.{views-fit}
 use Rattle.listing.specs.Words.{space, lineFeed}
 use Rattle.listing.specs.Words as the
 use Rattle.listing.specs.Listing.{headerLine, taskLine, loadOf, coreLine, sheetText, refusedLine, textOf, listingOf}
@@ -84,13 +87,18 @@ all-lines : (line : ℕ → List ℕ) (most n : ℕ) → ((i : ℕ) → i < n �
 all-lines line most n h =
     rw (numbers-length 0 n) at (lines-short line most (numbers 0 n) (each-of (numbers 0 n) (λ i q. h i (rw zero-add at q)) (numbers-in 0 n)))
 
+version-small : (v : ℕ) → (v ≡ 1) ⊎ (v ≡ 2) → v ≤ 120000
+version-small v (inl e) = omega arith
+version-small v (inr e) = omega arith
+
 accepted-short : (s : List ℕ) → Acceptable s → length (sheetText (word s 3) (figures s)) ≤ 8192
 unfolding sheetText
 accepted-short s t =
     let f : Figures = figures s in
-    let a = header-short (word s 3) (f .tasks) (f .cores) (omega (arith, t .frame .version)) (omega (arith, t .frame .tasks)) (omega (arith, t .frame .cores)) in
-    let b = all-lines (taskLine f) 114 (f .tasks) (λ i h. task-short f (t .fitting) (t .frame .cores) i h (omega (arith, t .frame .tasks))) in
-    let c = all-lines (coreLine f) 76 (f .cores) (core-short f (t .fitting) (t .frame .cores)) in
+    let g : Fitting f = views-fit s (t .order) .0 (t .fitting) in
+    let a = header-short (word s 3) (f .tasks) (f .cores) (version-small (word s 3) (t .frame .version)) (omega (arith, t .frame .tasks)) (omega (arith, t .frame .cores)) in
+    let b = all-lines (taskLine f) 114 (f .tasks) (λ i h. task-short f g (t .frame .cores) i h (omega (arith, t .frame .tasks))) in
+    let c = all-lines (coreLine f) 76 (f .cores) (core-short f g (t .frame .cores)) in
     simp length-append (omega (arith, a, b, c, t .frame .tasks, t .frame .cores))
 
 -- what is found is one of those looked at
@@ -126,7 +134,7 @@ Small : Option ℕ → Type 0
 Small o = (x : ℕ) → o ≡ some x → x ≤ 10000
 
 RowIn : Row → Type 0
-RowIn (k at o) = (k ≤ 14) × Small o
+RowIn (k at o) = (k ≤ 23) × Small o
 
 whole-in : (b : Bool) → Small (whole b)
 unfolding whole Small
@@ -158,33 +166,34 @@ unfolding Each taskSpares
 task-spares-in a zero = tt
 task-spares-in a (suc n) = (omega arith, each-of (taskSpares (a + 10) n) (λ x h. omega arith) (task-spares-in (a + 10) n))
 
-core-spares-in : (a c : ℕ) → Each (λ x. x ≤ a + 8 * c) (coreSpares a c)
+core-spares-in : (grouped : Bool) (a c : ℕ) → Each (λ x. x ≤ a + 8 * c) (coreSpares grouped a c)
 unfolding Each coreSpares
-core-spares-in a zero = tt
-core-spares-in a (suc c) = (omega arith, (omega arith, each-of (coreSpares (a + 8) c) (λ x h. omega arith) (core-spares-in (a + 8) c)))
+core-spares-in grouped a zero = tt
+core-spares-in true a (suc c) = (omega arith, each-of (coreSpares true (a + 8) c) (λ x h. omega arith) (core-spares-in true (a + 8) c))
+core-spares-in false a (suc c) = (omega arith, (omega arith, each-of (coreSpares false (a + 8) c) (λ x h. omega arith) (core-spares-in false (a + 8) c)))
 
 -- every row of the rules
 frame-in : (s : List ℕ) → Each RowIn (frameRows s)
 unfolding Each RowIn frameRows
 frame-in s = ((omega arith, whole-in _), ((omega arith, whole-in _), ((omega arith, whole-in _), ((omega arith, whole-in _), ((omega arith, whole-in _), tt)))))
 
-spare-in : (n c : ℕ) (s r : List ℕ) → n ≤ 255 → c ≤ 255 → Each RowIn (spareRows n c s r)
+spare-in : (grouped : Bool) (n c : ℕ) (s r : List ℕ) → n ≤ 255 → c ≤ 255 → Each RowIn (spareRows grouped n c s r)
 unfolding Each RowIn Small spareRows
-spare-in n c s r hn hc = (
+spare-in grouped n c s r hn hc = (
   (omega arith, λ x e. find-in (λ y. y ≤ 10000) _ (7 ∷ []) x (omega arith, tt) e),
   (
     (omega arith, offset-in _ (λ y e. omega (arith, find-in (λ y. y ≤ 0 + 10 * n) _ (taskSpares 0 n) y (task-spares-in 0 n) e))),
     (
-      (omega arith, offset-in _ (λ y e. omega (arith, find-in (λ y. y ≤ 10 * n + 8 * c) _ (coreSpares (10 * n) c) y (core-spares-in (10 * n) c) e))),
+      (omega arith, offset-in _ (λ y e. omega (arith, find-in (λ y. y ≤ 10 * n + 8 * c) _ (coreSpares grouped (10 * n) c) y (core-spares-in grouped (10 * n) c) e))),
       tt,
     ),
   ),
 )
 
 module _ (f : Figures) (hn : f .tasks ≤ 255) (hc : f .cores ≤ 255) where
-  tasks-in : Each RowIn (taskRows f)
+  tasks-in : (b : Bool) → Each RowIn (taskRows b f)
   unfolding Each RowIn taskRows
-  tasks-in = ((omega arith, place-in _ _ hn), ((omega arith, place-in _ _ hn), ((omega arith, place-in _ _ hn), tt)))
+  tasks-in b = ((omega arith, place-in _ _ hn), ((omega arith, place-in _ _ hn), ((omega arith, whole-in b), ((omega arith, place-in _ _ hn), tt))))
 
   cores-in : Each RowIn (coreRows f)
   unfolding Each RowIn coreRows
@@ -205,20 +214,21 @@ byte-in (b ∷ s) zero h = omega (arith, h .0)
 byte-in (b ∷ s) (suc i) h = byte-in s i (h .1)
 
 rules-in : (s : List ℕ) → Each (λ b. b < 256) s → Each RowIn (rules s)
-unfolding rules recordRows
+unfolding rules partRows recordRows
 rules-in s b =
     let n = byte-in s 5 b in
     let c = byte-in s 6 b in
-    let f : Figures = figures s in
+    let f : Figures = positionedIn (isGrouped s) (taskCount s) (coreCount s) (drop 8 s) in
+    let o : Bool = badOrder (isGrouped s) f (drop 8 s) in
     each-append RowIn (frameRows s) _ (frame-in s)
-    (each-append RowIn (spareRows (taskCount s) (coreCount s) s (drop 8 s)) _ (spare-in (taskCount s) (coreCount s) s (drop 8 s) n c)
-    (each-append RowIn (taskRows f) _ (tasks-in f n c) (each-append RowIn (coreRows f) (fitRows f) (cores-in f n c) (fits-in f n c))))
+    (each-append RowIn (spareRows (isGrouped s) (taskCount s) (coreCount s) s (drop 8 s)) _ (spare-in (isGrouped s) (taskCount s) (coreCount s) s (drop 8 s) n c)
+    (each-append RowIn (taskRows o f) _ (tasks-in f n c o) (each-append RowIn (coreRows f) (fitRows f) (cores-in f n c) (fits-in f n c))))
 
-scan-in : (rows : List Row) (r : Refused) → Each RowIn rows → scan rows ≡ some r → (r .number ≤ 14) × (r .place ≤ 10000)
+scan-in : (rows : List Row) (r : Refused) → Each RowIn rows → scan rows ≡ some r → (r .number ≤ 23) × (r .place ≤ 10000)
 unfolding Each RowIn Small scan
 scan-in [] r h e = absurd (Option·none-ne-some r e)
 scan-in ((k at none) ∷ rows) r h e = scan-in rows r (h .1) e
-scan-in ((k at some x) ∷ rows) r h e = subst (λ (t : Refused). (t .number ≤ 14) × (t .place ≤ 10000)) (Option·some-injective _ r e) (h .0 .0, h .0 .1 x refl)
+scan-in ((k at some x) ∷ rows) r h e = subst (λ (t : Refused). (t .number ≤ 23) × (t .place ≤ 10000)) (Option·some-injective _ r e) (h .0 .0, h .0 .1 x refl)
 
 -- The text of any bytes is at most 8,192 bytes long.
 pub listing-short : (s : List ℕ) → Each (λ b. b < 256) s → length (listingOf s) ≤ 8192

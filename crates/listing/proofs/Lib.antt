@@ -2,6 +2,7 @@ pub mod Writing
 pub mod Decimals
 pub mod Figures
 pub mod Lines
+pub mod Agree
 pub mod Sheets
 pub mod Laws
 pub mod Length

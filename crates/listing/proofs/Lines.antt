@@ -1,13 +1,14 @@
 -- The lines, as the code writes them: the numbers of the fields are the sheet's figures, and one line follows another.
 -- Assumes nothing.
-use Prim.Native.Nat.{ℕ, _+_, _*_, _≤_}
+use Prim.Native.Nat.{ℕ, _+_, _*_, _≤_, _<_}
 use mathlib.Core.Path.{_≡_, refl}
 use mathlib.Core.List.{List, _++_}
 use native.Mathlib.Omega.{arith}
 use native.Mathlib.Nat.{mul-add, mul-one, mul-zero}
 use lib.ListN.{length}
 use Rattle.sheet.specs.Records.{Figures}
-use Rattle.fit.specs.Lists.{numbers, joined}
+use Rattle.sheet.specs.Views.{renumbered}
+use Rattle.fit.specs.Lists.{numbers, at, joined}
 use Rattle.fit.specs.Fits.{within}
 use Rattle.fit.proofs.Lists.{joined-next}
 use Rattle.fit.specs.Cores.{withinOn}
@@ -45,3 +46,14 @@ module _ (line : ℕ → List ℕ) (most : ℕ) (out : List ℕ) (at : ℕ) wher
   lines-end new after i n a b p =
       let e : i ≡ n = omega arith in
       rw e at p
+
+-- a task's record stands at a position below n
+pub task-inside : (positions : List ℕ) (n i j : ℕ) → j ≡ at positions i → i < n → ((i : ℕ) → i < n → at positions i < n) → j < n
+task-inside positions n i j e q h = rw e (h i q)
+
+-- one more task, whose record stands at position j
+pub tasks-turn : (f : Figures) (position : ℕ → ℕ) (most : ℕ) (out mid new : List ℕ) (at next after i j : ℕ) → j ≡ position i → Capped most mid next (taskLine (renumbered (λ x. j) f) i) new after → Capped (most * i) out at (joined (taskLine (renumbered position f)) (numbers 0 i)) mid next → Capped (most * (i + 1)) out at (joined (taskLine (renumbered position f)) (numbers 0 (i + 1))) new after
+unfolding taskLine withinOn
+tasks-turn f position most out mid new at next after i j e q p =
+    let t : Capped most mid next (taskLine (renumbered position f) i) new after = rw e at q in
+    lines-turn (taskLine (renumbered position f)) most out at mid new next after i t p

@@ -1,7 +1,7 @@
 -- The text of any bytes, as the code writes it: the parts of an accepted sheet hold its figures, and each way out gives the answer.
 -- Assumes nothing.
-use Prim.Native.Nat.{ℕ, _+_, _-_, _*_, _≤_, _<_}
-use mathlib.Core.Path.{_≡_, refl, sym, ap, subst, _∙_}
+use Prim.Native.Nat.{ℕ, _+_, _-_, _*_, _≤_, _<_, min}
+use mathlib.Core.Path.{_≡_, refl, sym, ap, ap₂, subst, _∙_}
 use mathlib.Core.Bool.{Bool, true, false, cond}
 use mathlib.Core.List.{List, _++_}
 use native.Mathlib.Omega.{arith}
@@ -12,14 +12,20 @@ use lib.ListN.{length, take, drop, length-append, length-drop}
 use lib.Seq.{length-take-le}
 use Rattle.sheet.specs.Refusals.{numberOf}
 use Rattle.sheet.specs.Numbers.{word}
-use Rattle.sheet.specs.Records.{Figures, figuresOf, figures, taskCount, coreCount}
+use Rattle.sheet.specs.Records.{Figures, numberAt, figuresWith, taskCount, coreCount}
+use Rattle.sheet.specs.Views.{isGrouped, coreOfPosition, positionOfNumber, numberOfPosition, renumbered, byPosition, figures}
 use Rattle.sheet.specs.declared.Refusal.{Refusal}
-use Rattle.fit.specs.Lists.{numbers, joined, over}
+use Rattle.fit.specs.Lists.{numbers, at, joined, over}
+use Rattle.fit.specs.Answers.{Column}
+use Rattle.views.specs.Renamed.{Agree}
+use Rattle.views.proofs.ByNumber.{position-below}
+use Rattle.views.proofs.Renamed.{agree-renamed}
 use Rattle.checker.specs.declared.Verdict.{Verdict}
 use Rattle.checker.specs.declared.Verdict.the-variants.{Accepted, Refused as Rejected}
-use Rattle.checker.specs.Accepted.{Acceptable, Fitting}
+use Rattle.checker.specs.Accepted.{Acceptable, Fitting, OrderKept}
 use Rattle.checker.specs.Verdict.{accepted, verdict, outcomeOf}
 use Rattle.checker.proofs.Acceptance.{accepted-exactly}
+use Rattle.checker.proofs.Views.{agree-fits, sheet-renamed, views-fit}
 use Rattle.fit.proofs.Lists.{part}
 use Rattle.listing.specs.declared.Listed.{Listed}
 use Rattle.listing.specs.declared.Listed.the-variants.{Written}
@@ -27,6 +33,13 @@ use Rattle.listing.specs.Listing.{headerLine, taskLine, coreLine, sheetT
 use Rattle.listing.specs.Steps.{Put, Capped}
 use Rattle.listing.specs.Answers.{written, refused, listed, holding, answerOf}
 use Rattle.listing.proofs.Writing.{put-join}
+use Rattle.listing.proofs.Agree.{cores-renamed, tasks-agree}
+
+-- a task whose number is below n stands at a position below n
+position-in : (grouped : Bool) (n c : ℕ) (records : List ℕ) → OrderKept grouped n c records → (i : ℕ) → i < n → positionOfNumber grouped n records i < n
+unfolding OrderKept
+position-in true n c records h i q = position-below (numberAt records) n (h refl .numbers) i q
+position-in false n c records h i q = q
 
 module _ (s : List ℕ) (n c : ℕ) (v : verdict s ≡ accepted n c) where
   good : Acceptable s
@@ -50,11 +63,83 @@ module _ (s : List ℕ) (n c : ℕ) (v : verdict s ≡ accepted n c) where
   pub tasks-long : 10 * n ≤ length (take (length s - 8) (drop 8 s))
   tasks-long = rw (part s 8, length-drop 8 s, tasks-same) (omega (arith, good .frame .size))
 
-  pub parts : figuresOf n c (take (length s - 8) (drop 8 s)) (take (length (take (length s - 8) (drop 8 s)) - 10 * n) (drop (10 * n) (take (length s - 8) (drop 8 s)))) ≡ figures s
-  parts = rw (part (take (length s - 8) (drop 8 s)) (10 * n), part s 8, tasks-same, cores-same) refl
+  -- the parts of the sheet that hold its records
+  abbrev tasks : List ℕ
+  tasks = take (length s - 8) (drop 8 s)
 
-  pub sheet-fitting : Fitting (figuresOf n c (take (length s - 8) (drop 8 s)) (take (length (take (length s - 8) (drop 8 s)) - 10 * n) (drop (10 * n) (take (length s - 8) (drop 8 s)))))
-  sheet-fitting = subst Fitting (sym parts) (good .fitting)
+  abbrev cores : List ℕ
+  cores = take (length tasks - 10 * n) (drop (10 * n) tasks)
+
+  task-part : tasks ≡ drop 8 s
+  task-part = part s 8
+
+  core-part : cores ≡ drop (10 * n) tasks
+  core-part = part tasks (10 * n)
+
+  -- with the cores by position and the positions by task number they hold its figures
+  module _ (grouped : Bool) (on positions : List ℕ) (version-same : grouped ≡ isGrouped s) (cs : Column (coreOfPosition grouped c tasks cores) (min n 64) on) (ps : Column (positionOfNumber grouped (min n 64) tasks) (min n 64) positions) where
+    abbrev f : Figures
+    f = figuresWith (at on) n c tasks cores
+
+    positioned : Agree (byPosition s) f
+    positioned =
+        record {
+          tasks = tasks-same;
+          cores = cores-same;
+          period = λ i h. rw task-part;
+          budget = λ i h. rw task-part;
+          core = λ i h. cs .below i (omega (arith, tasks-same, tasks-few)) ∙ rw (core-part, task-part, version-same, cores-same, tasks-same);
+          factor = λ i h. rw task-part;
+          pivot = λ k h. rw (core-part, task-part, tasks-same);
+          divisor = λ k h. rw (core-part, task-part, tasks-same);
+        }
+
+    position-same : (i : ℕ) → i < taskCount s → at positions i ≡ positionOfNumber (isGrouped s) (taskCount s) (drop 8 s) i
+    position-same i h =
+        let m : min n 64 ≡ taskCount s = omega (arith, tasks-same, tasks-few) in
+        ps .below i (omega arith) ∙ rw (m, version-same, task-part)
+
+    position-inside : (i : ℕ) → i < taskCount s → at positions i < taskCount s
+    position-inside i h = rw (position-same i h) (position-in (isGrouped s) (taskCount s) (coreCount s) (drop 8 s) (good .order) i h)
+
+    numbered : Agree (figures s) (renumbered (at positions) f)
+    numbered =
+        record {
+          tasks = tasks-same;
+          cores = cores-same;
+          period = λ i h. positioned .period (at positions i) (position-inside i h) ∙ ap (byPosition s .period) (position-same i h);
+          budget = λ i h. positioned .budget (at positions i) (position-inside i h) ∙ ap (byPosition s .budget) (position-same i h);
+          core = λ i h. positioned .core (at positions i) (position-inside i h) ∙ ap (byPosition s .core) (position-same i h);
+          factor = λ i h. positioned .factor (at positions i) (position-inside i h) ∙ ap (byPosition s .factor) (position-same i h);
+          pivot = positioned .pivot;
+          divisor = positioned .divisor;
+        }
+
+    pub sheet-fitting : Fitting f
+    sheet-fitting = agree-fits (byPosition s) f positioned .0 (good .fitting)
+
+    pub sheet-positions : (i : ℕ) → i < n → at positions i < n
+    sheet-positions i h = rw tasks-same (position-inside i (rw tasks-same at h))
+
+    tasks-text : joined (taskLine (renumbered (at positions) f)) (numbers 0 n) ≡ joined (taskLine (figures s)) (numbers 0 (taskCount s))
+    tasks-text = tasks-agree (figures s) (renumbered (at positions) f) numbered (views-fit s (good .order) .0 (good .fitting) .tasks)
+
+    cores-text : joined (coreLine f) (numbers 0 c) ≡ joined (coreLine (figures s)) (numbers 0 (coreCount s))
+    cores-text =
+        cores-renamed (byPosition s) f (λ i. i) (agree-renamed (byPosition s) f positioned)
+        ∙ sym (cores-renamed (byPosition s) (figures s) (numberOfPosition (isGrouped s) (drop 8 s)) (sheet-renamed s (good .order)))
+
+    -- the text is the header, the tasks and the cores
+    pub sheet-put : (version : ℕ) (out mid mid₂ new : List ℕ) (next next₂ after : ℕ) → version ≡ word s 3
+        → Capped (76 * c) mid₂ next₂ (joined (coreLine f) (numbers 0 c)) new after
+        → Capped (114 * n) mid next (joined (taskLine (renumbered (at positions) f)) (numbers 0 n)) mid₂ next₂
+        → Capped 57 out 0 (headerLine version n c) mid next
+        → Capped 8192 out 0 (sheetText (word s 3) (figures s)) new after
+    unfolding sheetText
+    sheet-put version out mid mid₂ new next next₂ after ev r q p =
+        let w : Put out 0 (headerLine version n c ++ joined (taskLine (renumbered (at positions) f)) (numbers 0 n) ++ joined (coreLine f) (numbers 0 c)) new after = put-join (r .put) (put-join (q .put) (p .put)) in
+        let header : headerLine version n c ≡ headerLine (word s 3) (taskCount s) (coreCount s) = rw (ev, tasks-same, cores-same) in
+        record { put = subst (λ (t : List ℕ). Put out 0 t new after) (ap₂ _++_ (ap₂ _++_ header tasks-text) cores-text) w; cap = omega (arith, tasks-few, cores-few, p .cap, q .cap, r .cap) }
 
   -- there is room for the tasks behind the header, and for the cores behind the tasks
   module _ (out mid t : List ℕ) (next : ℕ) (room : 8192 ≤ length out) (k : length mid ≡ length out) (p : Capped 57 out 0 t mid next) where
@@ -63,17 +148,6 @@ module _ (s : List ℕ) (n c : ℕ) (v : verdict s ≡ accepted n c) where
 
     pub cores-room : (mid₂ t₂ : List ℕ) (next₂ : ℕ) → length mid₂ ≡ length mid → Capped (114 * n) mid next t₂ mid₂ next₂ → next₂ + 76 * c ≤ length mid₂
     cores-room mid₂ t₂ next₂ k₂ q = omega (arith, tasks-few, cores-few, p .cap, q .cap)
-
-  -- the text is the header, the tasks and the cores
-  pub sheet-put : (f : Figures) (version : ℕ) (out mid mid₂ new : List ℕ) (next next₂ after : ℕ) → f ≡ figures s → version ≡ word s 3
-      → Capped (76 * c) mid₂ next₂ (joined (coreLine f) (numbers 0 c)) new after
-      → Capped (114 * n) mid next (joined (taskLine f) (numbers 0 n)) mid₂ next₂
-      → Capped 57 out 0 (headerLine version n c) mid next
-      → Capped 8192 out 0 (sheetText (word s 3) (figures s)) new after
-  unfolding sheetText
-  sheet-put f version out mid mid₂ new next next₂ after e ev r q p =
-      let w : Put out 0 (headerLine version n c ++ joined (taskLine f) (numbers 0 n) ++ joined (coreLine f) (numbers 0 c)) new after = put-join (r .put) (put-join (q .put) (p .put)) in
-      record { put = rw (e, ev, tasks-same, cores-same) at w; cap = omega (arith, tasks-few, cores-few, p .cap, q .cap, r .cap) }
 
 -- the ways out: an output that is too short, and a text that is written
 module _ (s out : List ℕ) (h : length out < 8192) where

@@ -2,7 +2,8 @@
 use Prim.Native.Nat.{ℕ, _*_}
 use mathlib.Core.List.{List, [], _∷_, _++_}
 use Rattle.sheet.specs.Numbers.{word}
-use Rattle.sheet.specs.Records.{Figures, figures}
+use Rattle.sheet.specs.Records.{Figures}
+use Rattle.sheet.specs.Views.{figures}
 use Rattle.fit.specs.Lists.{numbers, joined}
 use Rattle.fit.specs.Rounding.{ceiling}
 use Rattle.fit.specs.Fits.{exactLoad, fullLoad}

@@ -1,12 +1,14 @@
 // The listing of a sheet: the text of any bytes, written into a lent buffer (docs/SHEET.md, section 8).
-// `tasks` is the sheet's part from byte 8, `cores` its part after the last task.
+// `tasks` is the sheet's part from byte 8, `cores` its part after the last task, `on` the core of each position.
 ghost use mathlib.Core.Path.{_≡_};
-ghost use Prim.Native.Nat.{_+_, _*_, _%_, _<_, _≤_};
+ghost use Prim.Native.Nat.{ℕ, _+_, _*_, _%_, _<_, _≤_, min};
 ghost use mathlib.Core.List.{[], _∷_};
 ghost use lib.ListN.{length};
 ghost use Rattle.sheet.specs.Numbers.{word};
-ghost use Rattle.sheet.specs.Records.{figuresOf, figures};
-ghost use Rattle.fit.specs.Lists.{numbers, joined};
+ghost use Rattle.sheet.specs.Records.{periodAt, figuresWith};
+ghost use Rattle.sheet.specs.Views.{renumbered, figures};
+ghost use Rattle.fit.specs.Lists.{numbers, at as column, joined};
+ghost use Rattle.fit.specs.Answers.{Column};
 ghost use Rattle.fit.specs.Fits.{within};
 ghost use Rattle.checker.specs.Accepted.{Fitting};
 ghost use Rattle.checker.specs.Verdict.{verdict, accepted};
@@ -102,14 +104,25 @@ fn within_of(q: u16, m: u32, d: u32) -> u32
     (fit::product(q, m) / (d as u64)) as u32
 }
 
-fn put_task(out: &mut [u8], at: usize, tasks: &[u8], cores: &[u8], n: u8, c: u8, i: u8) -> usize
-    requires { ⌜ Fitting (figuresOf n c (now tasks) (now cores)) × (i < n) × (at + 114 ≤ length (now out)) ⌝ }
-    ensures { λ r. ⌜ Capped 114 (now (out .entry)) at (taskLine (figuresOf n c (now (tasks .entry)) (now (cores .entry))) i) (now (out .exit)) r ⌝ }
+// The line of task i, whose record stands at position j.
+fn put_task(
+    out: &mut [u8],
+    at: usize,
+    tasks: &[u8],
+    cores: &[u8],
+    on: &[u8],
+    n: u8,
+    c: u8,
+    i: u8,
+    j: u8,
+) -> usize
+    requires { ⌜ Fitting (figuresWith (column (now on)) n c (now tasks) (now cores)) × (j < n) × (at + 114 ≤ length (now out)) ⌝ }
+    ensures { λ r. ⌜ Capped 114 (now (out .entry)) at (taskLine (renumbered (λ x. j) (figuresWith (column (now (on .entry))) n c (now (tasks .entry)) (now (cores .entry)))) i) (now (out .exit)) r ⌝ }
 {
-    let k = sheet::core(tasks, i);
-    let p = sheet::period(tasks, i) as u32;
-    let e = sheet::budget(tasks, i) as u32;
-    let m = sheet::factor(tasks, i);
+    let k = sheet::byte(on, j as usize);
+    let p = sheet::period(tasks, j) as u32;
+    let e = sheet::budget(tasks, j) as u32;
+    let m = sheet::factor(tasks, j);
     let w = within_of(sheet::pivot(cores, k), m, sheet::divisor(cores, k));
     let next = put_field(out, at, b"task ", i as u32, b' ');
     let next = put_field(out, next, b"core ", k as u32, b' ');
@@ -119,14 +132,25 @@ fn put_task(out: &mut [u8], at: usize, tasks: &[u8], cores: &[u8], n: u8, c: u8,
     put_field(out, next, b"within ", w, b'\n')
 }
 
-fn put_tasks(out: &mut [u8], at: usize, tasks: &[u8], cores: &[u8], n: u8, c: u8) -> usize
-    requires { ⌜ Fitting (figuresOf n c (now tasks) (now cores)) × (at + 114 * n ≤ length (now out)) ⌝ }
-    ensures { λ r. ⌜ Capped (114 * n) (now (out .entry)) at (joined (taskLine (figuresOf n c (now (tasks .entry)) (now (cores .entry)))) (numbers 0 n)) (now (out .exit)) r ⌝ }
+// The lines of the tasks by number; `positions` says where their records stand.
+fn put_tasks(
+    out: &mut [u8],
+    at: usize,
+    tasks: &[u8],
+    cores: &[u8],
+    on: &[u8],
+    positions: &[u8],
+    n: u8,
+    c: u8,
+) -> usize
+    requires { ⌜ Fitting (figuresWith (column (now on)) n c (now tasks) (now cores)) × ((i : ℕ) → i < n → column (now positions) i < n) × (at + 114 * n ≤ length (now out)) ⌝ }
+    ensures { λ r. ⌜ Capped (114 * n) (now (out .entry)) at (joined (taskLine (renumbered (column (now (positions .entry))) (figuresWith (column (now (on .entry))) n c (now (tasks .entry)) (now (cores .entry))))) (numbers 0 n)) (now (out .exit)) r ⌝ }
 {
     let mut next = at;
     let mut i = 0;
     while i < n {
-        let after = put_task(out, next, tasks, cores, n, c, i);
+        let j = sheet::byte(positions, i as usize);
+        let after = put_task(out, next, tasks, cores, on, n, c, i, j);
         next = after;
         i += 1;
     }
@@ -142,11 +166,11 @@ fn in_thousandths(load: u64, full: u64) -> u32
 }
 
 // The load of core k in thousandths.
-fn load_of(tasks: &[u8], cores: &[u8], n: u8, c: u8, k: u8) -> u32
-    requires { ⌜ Fitting (figuresOf n c (now tasks) (now cores)) × (n ≤ 64) × (k < c) ⌝ }
-    ensures { λ r. ⌜ r ≡ loadOf (figuresOf n c (now (tasks .entry)) (now (cores .entry))) k ⌝ }
+fn load_of(periods: &[u16], tasks: &[u8], cores: &[u8], on: &[u8], n: u8, c: u8, k: u8) -> u32
+    requires { ⌜ Column (periodAt (now tasks)) (min n 64) (now periods) × Fitting (figuresWith (column (now on)) n c (now tasks) (now cores)) × (n ≤ 64) × (k < c) ⌝ }
+    ensures { λ r. ⌜ r ≡ loadOf (figuresWith (column (now (on .entry))) n c (now (tasks .entry)) (now (cores .entry))) k ⌝ }
 {
-    let order = fit::in_order(tasks, n, k);
+    let order = fit::on_core(periods, on, n, k);
     let count = order.count;
     let list = order.tasks;
     let chain = fit::chain_of(tasks, &list[..count]);
@@ -159,25 +183,44 @@ fn load_of(tasks: &[u8], cores: &[u8], n: u8, c: u8, k: u8) -> u32
     }
 }
 
-fn put_core(out: &mut [u8], at: usize, tasks: &[u8], cores: &[u8], n: u8, c: u8, k: u8) -> usize
-    requires { ⌜ Fitting (figuresOf n c (now tasks) (now cores)) × (n ≤ 64) × (k < c) × (at + 76 ≤ length (now out)) ⌝ }
-    ensures { λ r. ⌜ Capped 76 (now (out .entry)) at (coreLine (figuresOf n c (now (tasks .entry)) (now (cores .entry))) k) (now (out .exit)) r ⌝ }
+fn put_core(
+    out: &mut [u8],
+    at: usize,
+    periods: &[u16],
+    tasks: &[u8],
+    cores: &[u8],
+    on: &[u8],
+    n: u8,
+    c: u8,
+    k: u8,
+) -> usize
+    requires { ⌜ Column (periodAt (now tasks)) (min n 64) (now periods) × Fitting (figuresWith (column (now on)) n c (now tasks) (now cores)) × (n ≤ 64) × (k < c) × (at + 76 ≤ length (now out)) ⌝ }
+    ensures { λ r. ⌜ Capped 76 (now (out .entry)) at (coreLine (figuresWith (column (now (on .entry))) n c (now (tasks .entry)) (now (cores .entry))) k) (now (out .exit)) r ⌝ }
 {
-    let load = load_of(tasks, cores, n, c, k);
+    let load = load_of(periods, tasks, cores, on, n, c, k);
     let next = put_field(out, at, b"core ", k as u32, b' ');
     let next = put_field(out, next, b"pivot ", sheet::pivot(cores, k) as u32, b' ');
     let next = put_field(out, next, b"divisor ", sheet::divisor(cores, k), b' ');
     put_field(out, next, b"load ", load, b'\n')
 }
 
-fn put_cores(out: &mut [u8], at: usize, tasks: &[u8], cores: &[u8], n: u8, c: u8) -> usize
-    requires { ⌜ Fitting (figuresOf n c (now tasks) (now cores)) × (n ≤ 64) × (at + 76 * c ≤ length (now out)) ⌝ }
-    ensures { λ r. ⌜ Capped (76 * c) (now (out .entry)) at (joined (coreLine (figuresOf n c (now (tasks .entry)) (now (cores .entry)))) (numbers 0 c)) (now (out .exit)) r ⌝ }
+fn put_cores(
+    out: &mut [u8],
+    at: usize,
+    periods: &[u16],
+    tasks: &[u8],
+    cores: &[u8],
+    on: &[u8],
+    n: u8,
+    c: u8,
+) -> usize
+    requires { ⌜ Column (periodAt (now tasks)) (min n 64) (now periods) × Fitting (figuresWith (column (now on)) n c (now tasks) (now cores)) × (n ≤ 64) × (at + 76 * c ≤ length (now out)) ⌝ }
+    ensures { λ r. ⌜ Capped (76 * c) (now (out .entry)) at (joined (coreLine (figuresWith (column (now (on .entry))) n c (now (tasks .entry)) (now (cores .entry)))) (numbers 0 c)) (now (out .exit)) r ⌝ }
 {
     let mut next = at;
     let mut k = 0;
     while k < c {
-        let after = put_core(out, next, tasks, cores, n, c, k);
+        let after = put_core(out, next, periods, tasks, cores, on, n, c, k);
         next = after;
         k += 1;
     }
@@ -192,9 +235,13 @@ fn put_sheet(out: &mut [u8], sheet: &[u8], n: u8, c: u8) -> usize
     let tasks = &sheet[8..];
     let at = 10 * (n as usize);
     let cores = &tasks[at..];
+    let grouped = sheet::is_grouped(sheet);
+    let on = views::cores_of(grouped, tasks, cores, n, c);
+    let positions = views::positions_of(grouped, tasks, n);
+    let periods = fit::periods_of(tasks, 10, n);
     let next = put_header(out, sheet::read_word(sheet, 3), n, c);
-    let next = put_tasks(out, next, tasks, cores, n, c);
-    put_cores(out, next, tasks, cores, n, c)
+    let next = put_tasks(out, next, tasks, cores, &on, &positions, n, c);
+    put_cores(out, next, &periods, tasks, cores, &on, n, c)
 }
 
 // Lists a sheet: puts the text of any bytes at the front of an output of at least 8,192 bytes, which is enough for every text.

@@ -13,7 +13,7 @@ use lib.IntN.{ℤ, pos}
 use lib.Signed.{_≤ℤ_}
 use borrow.Author.Tests.{ltb-true, lt-ltb}
 use Rattle.sheet.specs.Table.{Refused, scan}
-use Rattle.sheet.specs.Records.{figures}
+use Rattle.sheet.specs.Views.{figures}
 use Rattle.fit.specs.declared.By.the-variants.{Period}
 use Rattle.fit.specs.Lists.{numbers, sum, select, Each, EachPair}
 use Rattle.fit.specs.Priority.{above, Above}
@@ -27,7 +27,7 @@ use Rattle.jobs.specs.Jobs.{jobCount, jobPeriod, jobBudget, listRows, Listed}
 use Rattle.jobs.proofs.Laws.{listed}
 use Rattle.checker.specs.Verdict.{verdict, accepted}
 use Rattle.checker.specs.Accepted.{Schedulable}
-use Rattle.checker.proofs.Acceptance.{core-of}
+use Rattle.checker.proofs.Views.{core-of}
 use Rattle.timing.specs.declared.Task.{Task}
 use Rattle.timing.specs.Calls.{Call, release, answer, next, log}
 use Rattle.timing.specs.Form.{Form}

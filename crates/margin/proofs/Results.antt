@@ -1,6 +1,6 @@
 -- Each way out of `margin`, and the margin of a task from the periods and budgets of those above it, as the code returns them.
 -- Assumes nothing.
-use Prim.Native.Nat.{ℕ, zero, suc, _+_, _/_, _≤_, _<_}
+use Prim.Native.Nat.{ℕ, _+_, _/_, _≤_, _<_}
 use mathlib.Core.Path.{_≡_, refl, sym, ap, fun-ext, _∙_}
 use mathlib.Core.Option.{none}
 use mathlib.Core.List.{List, [], _∷_, map}
@@ -16,7 +16,7 @@ use Rattle.sheet.specs.declared.Finding.{Finding}
 use Rattle.sheet.specs.declared.Finding.the-variants.{Clear, Broken}
 use Rattle.sheet.specs.Table.{scan, findingOf}
 use Rattle.fit.specs.Lists.{numbers, Each}
-use Rattle.fit.proofs.Lists.{each-select}
+use Rattle.fit.proofs.Lists.{each-number, each-select}
 use Rattle.jobs.specs.Jobs.{jobCount, jobPeriod, jobBudget, listRows, Listed}
 use Rattle.jobs.proofs.Laws.{listed}
 use Rattle.dispatcher.proofs.Starts.{list-few}
@@ -26,12 +26,6 @@ use Rattle.margin.specs.Margin.{tasksAbove, demand, smallest, marginFrom
 use Rattle.margin.specs.Answers.{outcomeOf, marginIn, answerFrom, marginAnswer}
 use Rattle.margin.specs.Steps.{demandBelow, marginBelow, Ranged, no-tasks, one-more, Gathered}
 use Rattle.margin.proofs.Requests.{requests-sum}
-
--- what holds for every number below n holds for each of them
-each-number : (P : ℕ → Type 0) (a n : ℕ) → ((j : ℕ) → j < a + n → P j) → Each P (numbers a n)
-unfolding Each numbers
-each-number P a zero f = tt
-each-number P a (suc n) f = (f a (omega arith), each-number P (suc a) n (λ j h. f j (omega arith)))
 
 -- the ranges of task j, and listed tasks that have them
 abbrev InRange : (ℕ → ℕ) → (ℕ → ℕ) → ℕ → Type 0
@@ -56,8 +50,8 @@ module _ (l : List ℕ) (n i : ℕ) (ok : Listed 0 l) (all : n ≡ jobCount l) (
   unfolding tasksAbove
   above-ranged = rw (g .periods, g .budgets) (ranged-map (jobPeriod l) (jobBudget l) _ (each-select _ _ (numbers 0 n) (each-number _ 0 n own)))
     where
-      own : (j : ℕ) → j < 0 + n → InRange (jobPeriod l) (jobBudget l) j
-      own j h =
+      own : (j : ℕ) → 0 ≤ j → j < 0 + n → InRange (jobPeriod l) (jobBudget l) j
+      own j a h =
           let q : j < jobCount l = omega arith in
           (ok .period j q .0, ok .period j q .1, ok .budget j q .1)
 

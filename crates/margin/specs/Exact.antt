@@ -5,7 +5,7 @@ use mathlib.Core.List.{List, _∷_, _++_}
 use lib.IntN.{ℤ, pos, _-ℤ_}
 use lib.Signed.{_≤ℤ_}
 use Rattle.sheet.specs.Table.{scan}
-use Rattle.sheet.specs.Records.{figures}
+use Rattle.sheet.specs.Views.{figures}
 use Rattle.fit.specs.Lists.{Each}
 use Rattle.fit.specs.Cores.{orderOn, withinOn}
 use Rattle.jobs.specs.Jobs.{jobPeriod, jobBudget, listRows}

@@ -6,7 +6,6 @@ ghost use lib.ListN.{length};
 ghost use lib.IntN.{pos, _-ℤ_, natAbs};
 ghost use Rattle.fit.specs.Lists.{numbers};
 ghost use Rattle.fit.specs.Rounding.{ceiling};
-ghost use Rattle.fit.specs.Priority.{higher};
 ghost use Rattle.jobs.specs.Jobs.{jobCount, jobPeriod, jobBudget, Listed};
 ghost use Rattle.margin.specs.Margin.{tasksAbove};
 ghost use Rattle.margin.specs.Answers.{outcomeOf, marginIn, marginAnswer};
@@ -78,13 +77,6 @@ fn margin_below(periods: &[u16], budgets: &[u16], period: u16, budget: u16) -> i
     minus(p, d)
 }
 
-// Whether task i with period p has priority over task j with period q.
-fn is_above(p: u16, i: u8, q: u16, j: u8) -> bool
-    ensures { λ r. ⌜ r ≡ higher p i q j ⌝ }
-{
-    (p < q) | ((p == q) & (i < j))
-}
-
 fn counted(count: usize, one: bool) -> usize
     requires { ⌜ count < 64 ⌝ }
     ensures { λ r. ⌜ r ≡ cond one (count + 1) count ⌝ }
@@ -107,7 +99,7 @@ fn tasks_above(list: &[u8], n: u8, i: u8) -> HigherTasks
         let p = jobs::period(list, j);
         periods[count] = p;
         budgets[count] = jobs::budget(list, j);
-        let next = counted(count, is_above(p, j, q, i));
+        let next = counted(count, fit::is_above(p, j, q, i));
         count = next;
         j += 1;
     }

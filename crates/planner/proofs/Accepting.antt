@@ -2,6 +2,7 @@
 -- Assumes nothing.
 use Prim.Native.Nat.{ℕ, _+_, _*_, _≤_, _<_}
 use mathlib.Core.Path.{_≡_, refl, sym, ap, subst, _∙_}
+use mathlib.Core.Logic.{inl}
 use mathlib.Core.Bool.{true, false, false≢true}
 use mathlib.Core.Option.{Option, none, some}
 use mathlib.Core.List.{List, [], _∷_, _++_, map, append-nil}
@@ -12,26 +13,27 @@ use lib.ListN.{length, drop, getD, length-append, length-map}
 use lib.Seq.{drop-at, getD-append-add}
 use lib.Dec.{eqb}
 use Rattle.sheet.specs.Numbers.{word, long}
-use Rattle.sheet.specs.Records.{Figures, figures}
+use Rattle.sheet.specs.Records.{Figures}
+use Rattle.sheet.specs.Views.{positionedIn, figures}
 use Rattle.fit.specs.Lists.{numbers, occurs, Each, EachPair, at, placeOf, joined}
 use Rattle.fit.specs.Fits.{stretched, overloaded}
 use Rattle.fit.proofs.Lists.{each-of, each-both, each-occurs}
 use Rattle.fit.proofs.Priority.{order-members, order-rising, order-holds, order-ext}
 use Rattle.fit.proofs.Selecting.{order-core-ext, rising-differ}
+use Rattle.fit.proofs.Laying.{records-length, record-at, record-word, record-long}
 use Rattle.figures.specs.Constructions.{Acceleration}
 use Rattle.figures.specs.Passing.{firstPassing}
 use Rattle.figures.proofs.Sound.{factors-length}
 use Rattle.figures.proofs.Passing.{Accepted, passing-sound, passing-accepted}
 use Rattle.fit.specs.Cores.{orderOn}
-use Rattle.checker.specs.Accepted.{LoadAtMostOne, Fitting, Acceptable}
+use Rattle.checker.specs.Accepted.{LoadAtMostOne, Fitting, OrderKept, Acceptable}
 use Rattle.checker.specs.Verdict.{verdict, accepted}
 use Rattle.checker.proofs.Acceptance.{accepted-exactly}
 use Rattle.planner.specs.declared.Assignment.{Assignment}
 use Rattle.planner.specs.FirstFit.{coreSet, coreFigures, isSome}
 use Rattle.planner.specs.Sheet.{two, four, header, taskRecord, coreRecord, orZeros, figuresFor, factorFor, sheetOf}
 use Rattle.planner.proofs.Settling.{Settled}
-use Rattle.planner.proofs.Writing.{records-length}
-use Rattle.planner.proofs.Decoding.{record-at, record-word, record-long, task-period, task-budget, task-factor, core-pivot, core-divisor}
+use Rattle.planner.proofs.Decoding.{task-period, task-budget, task-factor, core-pivot, core-divisor}
 
 -- two functions that agree on a list
 map-ext : (f g : ℕ → ℕ) (l : List ℕ) → Each (λ i. f i ≡ g i) l → map f l ≡ map g l
@@ -149,38 +151,38 @@ module _ (p e : ℕ → ℕ) (n limit : ℕ) (a : Assignment) (small : limit ≤
   cores-size = records-length core 8 core-size 0 (a .cores)
 
   f : Figures
-  f = figures sheet
+  f = positionedIn false n (a .cores) (tasks ++ cores)
 
   -- its fields, by task and by core
   f-period : (i : ℕ) → i < n → f .period i ≡ p i
-  unfolding f sheet header tasks task
+  unfolding f tasks task
   f-period i h = record-word task 10 task-size cores n i h (10 * i) 0 (omega arith) (omega arith) ∙ task-period (p i) (e i) (at (a .core) i) (M i) (omega (arith, period i h .1))
 
   f-budget : (i : ℕ) → i < n → f .budget i ≡ e i
-  unfolding f sheet header tasks task
+  unfolding f tasks task
   f-budget i h = record-word task 10 task-size cores n i h (10 * i + 2) 2 refl (omega arith) ∙ task-budget (p i) (e i) (at (a .core) i) (M i) (omega (arith, period i h .1, budget i h .1))
 
   f-core : (i : ℕ) → i < n → f .core i ≡ at (a .core) i
-  unfolding f sheet header tasks task taskRecord two four
+  unfolding f tasks task taskRecord two four
   f-core i h = record-at task 10 task-size cores n i h (10 * i + 4) 4 refl (omega arith)
 
   f-spare : (i : ℕ) → i < n → getD (drop 8 sheet) (10 * i + 5) 0 ≡ 0
-  unfolding f sheet header tasks task taskRecord two four
+  unfolding sheet header tasks task taskRecord two four
   f-spare i h = record-at task 10 task-size cores n i h (10 * i + 5) 5 refl (omega arith)
 
   f-factor : (i : ℕ) → i < n → f .factor i ≡ M i
-  unfolding f sheet header tasks task
+  unfolding f tasks task
   f-factor i h = record-long task 10 task-size cores n i h (10 * i + 6) 6 refl (omega arith) ∙ task-factor (p i) (e i) (at (a .core) i) (M i) (factor-range i h .1)
 
   after : drop (10 * n) (tasks ++ cores) ≡ cores ++ []
   after = drop-at tasks cores (10 * n) tasks-size ∙ sym (append-nil cores)
 
   f-pivot : (k : ℕ) → k < a .cores → f .pivot k ≡ Q k
-  unfolding f sheet header cores core
+  unfolding f cores core
   f-pivot k h = ap (λ (l : List ℕ). word l (8 * k)) after ∙ record-word core 8 core-size [] (a .cores) k h (8 * k) 0 (omega arith) (omega arith) ∙ core-pivot (Q k) (D k) (omega (arith, fits-plain k h .pivot .1))
 
   f-divisor : (k : ℕ) → k < a .cores → f .divisor k ≡ D k
-  unfolding f sheet header cores core
+  unfolding f cores core
   f-divisor k h = ap (λ (l : List ℕ). long l (8 * k + 4)) after ∙ record-long core 8 core-size [] (a .cores) k h (8 * k + 4) 4 refl (omega arith) ∙ core-divisor (Q k) (D k) (fits-plain k h .divisor .1)
 
   f-spares : (k : ℕ) → k < a .cores → (getD (drop 8 sheet) (10 * n + 8 * k + 2) 0 ≡ 0) × (getD (drop 8 sheet) (10 * n + 8 * k + 3) 0 ≡ 0)
@@ -194,7 +196,7 @@ module _ (p e : ℕ → ℕ) (n limit : ℕ) (a : Assignment) (small : limit ≤
           ∙ ap (λ (l : List ℕ). getD l (8 * k + j) 0) (sym (append-nil cores)) ∙ record-at core 8 core-size [] (a .cores) k h (8 * k + j) j refl b ∙ z
 
   f-order : (k : ℕ) → orderOn f k ≡ on k
-  unfolding f sheet header orderOn on coreSet
+  unfolding f orderOn on coreSet
   f-order k = order-ext (f .period) p (f .core) k n f-period ∙ order-core-ext p (f .core) (at (a .core)) k k n (λ i h. rw (f-core i h))
 
   f-fits : (k : ℕ) → k < a .cores → Accepted (f .period) (f .budget) (f .factor) (Q k) (D k) (on k)
@@ -202,7 +204,7 @@ module _ (p e : ℕ → ℕ) (n limit : ℕ) (a : Assignment) (small : limit ≤
 
   -- the figures fit
   fitting : Fitting f
-  unfolding f sheet header LoadAtMostOne overloaded stretched
+  unfolding f LoadAtMostOne overloaded stretched
   fitting =
       record {
         tasks =
@@ -236,15 +238,15 @@ module _ (p e : ℕ → ℕ) (n limit : ℕ) (a : Assignment) (small : limit ≤
 
   -- so the sheet's periods and budgets are those of the tasks
   pub sheet-period : (i : ℕ) → i < n → figures (sheetOf p e n a) .period i ≡ p i
-  unfolding sheetOf sheet tasks cores task core M Q D f
+  unfolding sheetOf sheet header tasks cores task core M Q D word f
   sheet-period = f-period
 
   pub sheet-budget : (i : ℕ) → i < n → figures (sheetOf p e n a) .budget i ≡ e i
-  unfolding sheetOf sheet tasks cores task core M Q D f
+  unfolding sheetOf sheet header tasks cores task core M Q D word f
   sheet-budget = f-budget
 
   pub sheet-accepted : verdict (sheetOf p e n a) ≡ accepted n (a .cores)
-  unfolding sheetOf sheet header tasks cores task core M Q D word f
+  unfolding sheetOf sheet header tasks cores task core M Q D word f OrderKept
   sheet-accepted = accepted-exactly sheet n (a .cores) .1 (acceptable, refl, refl)
     where
       acceptable : Acceptable sheet
@@ -253,11 +255,12 @@ module _ (p e : ℕ → ℕ) (n limit : ℕ) (a : Assignment) (small : limit ≤
             frame =
                 record {
                   mark = (refl, refl, refl);
-                  version = refl;
+                  version = inl refl;
                   tasks = many;
                   cores = le-trans (settled .few) small;
                   size = simp length-append (omega (arith, tasks-size, cores-size));
                 };
-            spares = record { header = refl; tasks = f-spare; cores = f-spares };
+            spares = record { header = refl; tasks = f-spare; cores = λ k h. (λ g. f-spares k h .0, f-spares k h .1) };
+            order = λ g. absurd (false≢true g);
             fitting = fitting;
           }

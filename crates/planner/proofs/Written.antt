@@ -8,7 +8,8 @@ use native.Mathlib.Omega.{arith}
 use lib.ListN.{length, take, drop}
 use lib.Seq.{take-at}
 use Rattle.sheet.specs.Table.{Refused, scan}
-use Rattle.sheet.specs.Records.{figures, taskCount}
+use Rattle.sheet.specs.Records.{taskCount}
+use Rattle.sheet.specs.Views.{figures}
 use Rattle.sheet.proofs.Scans.{scan-clear, scan-clears}
 use Rattle.fit.specs.Lists.{over}
 use Rattle.jobs.specs.Jobs.{jobCount, jobPeriod, jobBudget, listRows, Listed}

@@ -3,3 +3,4 @@ pub mod Table
 pub mod Ranges
 pub mod Numbers
 pub mod Records
+pub mod Views

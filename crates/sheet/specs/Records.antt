@@ -14,17 +14,26 @@ budgetAt tasks i = word tasks (10 * i + 2)
 abbrev pub coreAt : List ℕ → ℕ → ℕ
 coreAt tasks i = getD tasks (10 * i + 4) 0
 
+-- in version 2 the same byte is the task's old number
+abbrev pub numberAt : List ℕ → ℕ → ℕ
+numberAt tasks j = getD tasks (10 * j + 4) 0
+
 abbrev pub factorAt : List ℕ → ℕ → ℕ
 factorAt tasks i = long tasks (10 * i + 6)
 
--- The fields of core k in the part after the last task. A record has 8 bytes: pivot period (2), spare (2), divisor (4).
+-- The fields of core k in the part after the last task. A record has 8 bytes: pivot period (2), spare (2), divisor (4). In version 2 the
+-- first of the two spare bytes is the core's task count.
 abbrev pub pivotAt : List ℕ → ℕ → ℕ
 pivotAt cores k = word cores (8 * k)
 
 abbrev pub divisorAt : List ℕ → ℕ → ℕ
 divisorAt cores k = long cores (8 * k + 4)
 
--- The figures of a sheet: the counts n and c; period p, budget e, core and factor M by task number; pivot Q and divisor D by core number.
+abbrev pub countAt : List ℕ → ℕ → ℕ
+countAt cores k = getD cores (8 * k + 2) 0
+
+-- The figures of a sheet: the counts n and c; period p, budget e, core and factor M by task number or by position; pivot Q and divisor D
+-- by core number.
 pub record Figures : Type 0 where
   pub tasks : ℕ
   pub cores : ℕ
@@ -35,10 +44,10 @@ pub record Figures : Type 0 where
   pub pivot : ℕ → ℕ
   pub divisor : ℕ → ℕ
 
--- the figures of n task records and c core records
-abbrev pub figuresOf : ℕ → ℕ → List ℕ → List ℕ → Figures
-figuresOf n c tasks cores =
-    record { tasks = n; cores = c; period = periodAt tasks; budget = budgetAt tasks; core = coreAt tasks; factor = factorAt tasks; pivot = pivotAt cores; divisor = divisorAt cores }
+-- the figures of n task records on these cores and of c core records
+abbrev pub figuresWith : (ℕ → ℕ) → ℕ → ℕ → List ℕ → List ℕ → Figures
+figuresWith core n c tasks cores =
+    record { tasks = n; cores = c; period = periodAt tasks; budget = budgetAt tasks; core = core; factor = factorAt tasks; pivot = pivotAt cores; divisor = divisorAt cores }
 
 -- the counts: n is byte 5 of the header, c is byte 6
 abbrev pub taskCount : List ℕ → ℕ
@@ -46,11 +55,3 @@ taskCount s = getD s 5 0
 
 abbrev pub coreCount : List ℕ → ℕ
 coreCount s = getD s 6 0
-
--- the figures of the part from byte 8: n task records, then c core records
-abbrev pub figuresIn : ℕ → ℕ → List ℕ → Figures
-figuresIn n c records = figuresOf n c records (drop (10 * n) records)
-
--- the figures of a sheet
-abbrev pub figures : List ℕ → Figures
-figures s = figuresIn (taskCount s) (coreCount s) (drop 8 s)

@@ -6,7 +6,8 @@ ghost use lib.ListN.{getD};
 ghost use Rattle.sheet.specs.Refusals.{numberOf};
 ghost use Rattle.sheet.specs.Ranges.{outOf};
 ghost use Rattle.sheet.specs.Numbers.{word, long};
-ghost use Rattle.sheet.specs.Records.{periodAt, budgetAt, coreAt, factorAt, pivotAt, divisorAt};
+ghost use Rattle.sheet.specs.Records.{periodAt, budgetAt, coreAt, numberAt, factorAt, pivotAt, countAt, divisorAt};
+ghost use Rattle.sheet.specs.Views.{isGrouped};
 
 // The refusals by their words, in the order of their numbers (docs/SHEET.md, section 9).
 pub enum Refusal {
@@ -32,6 +33,7 @@ pub enum Refusal {
     Quiet,
     Foreign,
     Start,
+    Order,
 }
 
 // The first place at which something is found, if any.
@@ -72,6 +74,7 @@ pub fn number(word: Refusal) -> u8
         Refusal::Quiet => 20,
         Refusal::Foreign => 21,
         Refusal::Start => 22,
+        Refusal::Order => 23,
     }
 }
 
@@ -131,6 +134,13 @@ pub fn read_long(part: &[u8], at: usize) -> u32
     0
 }
 
+// Whether a sheet is of version 2, whose task records stand core by core.
+pub fn is_grouped(sheet: &[u8]) -> bool
+    ensures { λ r. ⌜ r ≡ isGrouped (now (sheet .entry)) ⌝ }
+{
+    read_word(sheet, 3) == 2
+}
+
 // The place of record i among records of this size.
 pub fn offset(size: u8, i: u8) -> usize
     ensures { λ r. ⌜ (r ≡ size * i) × (r ≤ 65025) ⌝ }
@@ -158,6 +168,13 @@ pub fn core(tasks: &[u8], i: u8) -> u8
     byte(tasks, 10 * (i as usize) + 4)
 }
 
+// In version 2 the same byte is the task's old number.
+pub fn old_number(tasks: &[u8], j: u8) -> u8
+    ensures { λ r. ⌜ r ≡ numberAt (now (tasks .entry)) j ⌝ }
+{
+    byte(tasks, 10 * (j as usize) + 4)
+}
+
 pub fn factor(tasks: &[u8], i: u8) -> u32
     ensures { λ r. ⌜ r ≡ factorAt (now (tasks .entry)) i ⌝ }
 {
@@ -170,6 +187,13 @@ pub fn pivot(cores: &[u8], k: u8) -> u16
     ensures { λ r. ⌜ r ≡ pivotAt (now (cores .entry)) k ⌝ }
 {
     read_word(cores, 8 * (k as usize))
+}
+
+// In version 2 the core's task count.
+pub fn count(cores: &[u8], k: u8) -> u8
+    ensures { λ r. ⌜ r ≡ countAt (now (cores .entry)) k ⌝ }
+{
+    byte(cores, 8 * (k as usize) + 2)
 }
 
 pub fn divisor(cores: &[u8], k: u8) -> u32

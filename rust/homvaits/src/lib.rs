@@ -1,8 +1,8 @@
 //! Safe Rust over the proved library: checks, plans and runs timing sheets. What a sheet is and when a core fits is told in
 //! `docs/SHEET.md` of the repository.
 //!
-//! A [`Sheet`] is an accepted one, checked or planned. A [`Core`] is started from it, and then told what happens: a task is released,
-//! a job ends early, a unit of time begins. The answer to a tick is the task that has this unit of time.
+//! A [`Sheet`] is an accepted one, checked, planned or moved. A [`Core`] is started from it, and then told what happens: a task is
+//! released, a job ends early, a unit of time begins. The answer to a tick is the task that has this unit of time.
 //!
 //! ```
 //! use homvaits::{plan, Core, Job};
@@ -30,6 +30,12 @@
 //! # Ok(())
 //! # }
 //! ```
+//!
+//! # Versions
+//!
+//! A sheet is of version 1, with its tasks by number, or of version 2, which is for printing: its tasks stand core by core, each core by
+//! priority, and have their numbers with them. [`plan`] makes version 1, and [`move_sheet`] turns one into the other. Every call takes
+//! both, and tasks go by their numbers; only the places of a refused sheet of version 2 go by position.
 //!
 //! # The library
 //!
@@ -76,7 +82,8 @@ pub struct Counts {
 ///
 /// # Errors
 ///
-/// The first rule that is broken, in the order of the numbers 1 to 14 ([`Word::Stub`] to [`Word::Overload`]).
+/// The first rule that is broken, in the order of the numbers 1 to 14 ([`Word::Stub`] to [`Word::Overload`]). In a sheet of version 2
+/// [`Word::Order`], 23, comes after [`Word::Budget`], 8, and [`Word::Core`], 9, does not come.
 pub fn check(bytes: &[u8]) -> Result<Counts, Refusal> {
     // SAFETY: pointer and length are of one slice, which is only read.
     let answer = unsafe { sys::homvaits_check(bytes.as_ptr(), bytes.len()) };
@@ -88,7 +95,7 @@ pub fn check(bytes: &[u8]) -> Result<Counts, Refusal> {
 }
 
 /// Plans a job list on at most `limit` cores (0 to 8), walking the ring of the jobs from position `start`. Another start may find
-/// another plan. A job's place in the list is its task number.
+/// another plan. A job's place in the list is its task number. The sheet is of version 1.
 ///
 /// # Errors
 ///
@@ -114,7 +121,37 @@ pub fn plan(jobs: &[Job], limit: u8, start: usize) -> Result<Sheet, Refusal> {
     Ok(Sheet::accepted(out, answer.length))
 }
 
-/// The listing of any bytes, in a lent buffer. A refused sheet has a listing too, one line such as `refused 14 place 64`.
+/// Moves a sheet to the other version, 1 to 2 or 2 to 1. The moved sheet has the same tasks and cores, and moving it gives these bytes.
+///
+/// ```
+/// use homvaits::{move_sheet, plan, Core, Job};
+///
+/// # fn main() -> Result<(), homvaits::Refusal> {
+/// let jobs = [Job { period: 9, budget: 7 }, Job { period: 5, budget: 1 }];
+/// let sheet = plan(&jobs, 1, 0)?;
+/// let moved = move_sheet(sheet.as_bytes())?;
+/// assert_eq!((sheet.version(), moved.version()), (1, 2));
+/// assert!(sheet.tasks().eq(moved.tasks())); // by number, and not by position
+/// assert_eq!(Core::start(&sheet, 0)?, Core::start(&moved, 0)?);
+/// assert_eq!(move_sheet(moved.as_bytes())?, sheet);
+/// # Ok(())
+/// # }
+/// ```
+///
+/// # Errors
+///
+/// As [`check`].
+pub fn move_sheet(bytes: &[u8]) -> Result<Sheet, Refusal> {
+    let mut out = [0; SHEET_MAX];
+    // SAFETY: each pointer stands with the length of its own slice; the output is a local that no other slice overlaps.
+    let answer =
+        unsafe { sys::homvaits_move(bytes.as_ptr(), bytes.len(), out.as_mut_ptr(), out.len()) };
+    Refusal::unless_zero(answer.refusal, answer.place)?;
+    Ok(Sheet::accepted(out, answer.length))
+}
+
+/// The listing of any bytes, in a lent buffer. That of a version 2 sheet is that of its version 1 sheet but for the version. A refused
+/// sheet has a listing too, one line such as `refused 14 place 64`.
 ///
 /// ```
 /// let mut out = [0; homvaits::LISTING_MAX];

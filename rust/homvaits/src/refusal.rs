@@ -19,7 +19,7 @@ pub struct Refusal {
 pub enum Place {
     /// No single place; number 0.
     Whole,
-    /// A task, by its number.
+    /// A task, by its number; in a refused sheet of version 2 by its position.
     Task(u8),
     /// A core, by its number; 64 more in [`Place::number`].
     Core(u8),
@@ -30,7 +30,7 @@ pub enum Place {
 }
 
 impl Place {
-    /// The place as a number: a task number, 64 plus a core number, a byte offset, or 0.
+    /// The place as a number: a task number or position, 64 plus a core number, a byte offset, or 0.
     #[must_use]
     pub const fn number(self) -> u16 {
         match self {
@@ -83,7 +83,7 @@ macro_rules! words {
                 }
             }
 
-            /// The number of the word, 1 to 22.
+            /// The number of the word, 1 to 23.
             #[must_use]
             pub const fn number(self) -> u8 {
                 match self {
@@ -123,7 +123,7 @@ macro_rules! words {
 words! {
     1 Stub "Stub" Whole "there are fewer than 8 bytes"
     2 Mark "Mark" Whole "the bytes do not begin with T S H"
-    3 Version "Version" Whole "the version is not 1"
+    3 Version "Version" Whole "the version is not 1 or 2"
     4 Count "Count" Whole "there are over 64 tasks, over 8 cores or a core limit above 8"
     5 Length "Length" Whole "the length is not the one that the counts give"
     6 Spare "Spare" Offset "a spare byte is not zero"
@@ -143,6 +143,7 @@ words! {
     20 Quiet "Quiet" Task "the task has no pending job"
     21 Foreign "Foreign" Whole "the state is damaged"
     22 Start "Start" Whole "the start is no position in the ring"
+    23 Order "Order" Whole "the old numbers, the task counts or the order of a core's tasks are wrong"
 }
 
 impl Refusal {
@@ -162,7 +163,7 @@ impl Refusal {
         }
     }
 
-    /// The number of the word, 1 to 22. The place's is [`Place::number`].
+    /// The number of the word, 1 to 23. The place's is [`Place::number`].
     #[must_use]
     pub const fn number(self) -> u8 {
         self.word.number()
@@ -198,7 +199,7 @@ mod tests {
                 assert_eq!((refusal.number(), refusal.place.number()), (number, place));
             }
             let known = !matches!(Word::of(number), Word::Other(_));
-            assert_eq!(known, number <= 22);
+            assert_eq!(known, number <= 23);
         }
         assert_eq!(Refusal::unless_zero(0, 0), Ok(()));
     }
@@ -206,10 +207,11 @@ mod tests {
     #[test]
     fn what_only_another_library_gives_is_shown_as_it_came() {
         assert_eq!(
-            Refusal::of(23, 70).to_string(),
-            "refused 23 (unknown) at place 70: the library is of another version"
+            Refusal::of(24, 70).to_string(),
+            "refused 24 (unknown) at place 70: the library is of another version"
         );
         assert_eq!(Refusal::of(1, 70).place, Place::Other(70));
+        assert_eq!(Refusal::of(23, 1).place, Place::Other(1));
         assert_eq!(Refusal::of(7, 64).place, Place::Other(64));
         assert_eq!(Refusal::of(14, 72).place, Place::Other(72));
         assert_eq!(Refusal::of(14, 63).place, Place::Other(63));

@@ -39,7 +39,7 @@ pub struct Core {
 }
 
 impl Core {
-    /// Starts a core of a sheet, by its number. Any of its tasks may be released at once.
+    /// Starts a core of a sheet, by its number. Any of its tasks may be released at once. A sheet and its moved sheet start alike.
     ///
     /// # Errors
     ///

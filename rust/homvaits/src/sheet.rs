@@ -2,7 +2,8 @@ use core::fmt;
 
 use crate::{check, Refusal, SHEET_MAX};
 
-/// A sheet that was accepted: every core of it fits. It is made by [`Sheet::check`] and by [`plan`](crate::plan) only.
+/// A sheet that was accepted: every core of it fits. It is made by [`Sheet::check`], by [`plan`](crate::plan) and by
+/// [`move_sheet`](crate::move_sheet) only.
 #[derive(Clone, PartialEq, Eq, Hash)]
 pub struct Sheet {
     /// Zeros past the length.
@@ -14,7 +15,7 @@ pub struct Sheet {
 #[derive(Clone, Copy, Debug, PartialEq, Eq, Hash)]
 #[non_exhaustive]
 pub struct SheetTask {
-    /// Its number: its position in the sheet, from 0.
+    /// Its number: its position in the sheet of version 1, from 0.
     pub number: u8,
     /// Ticks from one release to the next, at least.
     pub period: u16,
@@ -56,7 +57,7 @@ impl Sheet {
         };
         match sheet.bytes.get_mut(..bytes.len()) {
             Some(room) => room.copy_from_slice(bytes),
-            // only a library of another version accepts so many bytes: no version 1 sheet has them (5, Length)
+            // only a library of another version accepts so many bytes: no sheet has them (5, Length)
             None => return Err(Refusal::of(5, 0)),
         }
         Ok(sheet)
@@ -74,7 +75,13 @@ impl Sheet {
         &self.bytes[..self.length]
     }
 
-    /// The tasks by number.
+    /// The version of the sheet: 1 or 2.
+    #[must_use]
+    pub fn version(&self) -> u8 {
+        self.byte(3)
+    }
+
+    /// The tasks by number, in either version.
     #[must_use]
     pub fn tasks(
         &self,
@@ -95,8 +102,22 @@ impl Sheet {
     // at most Q × L, each of its terms the more so. A thousand times that is far below 2^64, and the thousandths are at most 1000.
 
     fn task(&self, number: u8) -> SheetTask {
-        let at = 8 + 10 * usize::from(number);
-        let core = self.byte(at + 4);
+        self.at(match self.version() {
+            1 => number,
+            // each number is there once
+            _ => (0..self.task_count())
+                .find(|&position| self.byte(8 + 10 * usize::from(position) + 4) == number)
+                .unwrap_or(0),
+        })
+    }
+
+    /// The task at a position.
+    fn at(&self, position: u8) -> SheetTask {
+        let at = 8 + 10 * usize::from(position);
+        let (number, core) = match self.version() {
+            1 => (position, self.byte(at + 4)),
+            _ => (self.byte(at + 4), self.core_of(position)),
+        };
         let factor = self.long(at + 6);
         let within =
             u64::from(self.pivot(core)) * u64::from(factor) / u64::from(self.divisor(core));
@@ -110,9 +131,22 @@ impl Sheet {
         }
     }
 
+    /// The core of a position of version 2: the counts add up to the number of tasks.
+    fn core_of(&self, position: u8) -> u8 {
+        let mut end = 0;
+        (0..self.byte(6))
+            .find(|&core| {
+                end += usize::from(self.byte(self.core_offset(core) + 2));
+                usize::from(position) < end
+            })
+            .unwrap_or(0)
+    }
+
     fn core(&self, number: u8) -> SheetCore {
         let (pivot, divisor) = (self.pivot(number), self.divisor(number));
-        let own = self.tasks().filter(|task| task.core == number);
+        let own = (0..self.task_count())
+            .map(|position| self.at(position))
+            .filter(|task| task.core == number);
         // each factor is a multiple of the one before it by priority: the last one is the largest
         let last = own.clone().map(|task| task.factor).max().unwrap_or(1);
         let load: u64 = own

@@ -55,6 +55,13 @@ pub struct Margined {
     pub margin: i32,
 }
 
+#[repr(C)]
+pub struct Moved {
+    pub refusal: u8,
+    pub place: u16,
+    pub length: u16,
+}
+
 /// The task of a tick that no task has.
 pub const IDLE: u8 = 255;
 
@@ -75,10 +82,11 @@ extern "C" {
     pub fn homvaits_tick(core: Core) -> Ticked;
     pub fn homvaits_list(sheet: *const u8, len: usize, out: *mut u8, out_len: usize) -> Listed;
     pub fn homvaits_margin(jobs: *const u8, len: usize, task: u64) -> Margined;
+    pub fn homvaits_move(sheet: *const u8, len: usize, out: *mut u8, out_len: usize) -> Moved;
 }
 
 mod layout {
-    use super::{Checked, Core, Listed, Margined, Planned, Step, Ticked};
+    use super::{Checked, Core, Listed, Margined, Moved, Planned, Step, Ticked};
     use crate::Task;
     include!("layout.rs");
 }

@@ -1,6 +1,6 @@
 //! Each kind of refusal: word, place and text.
 
-use homvaits::{check, margin, plan, Core, Job, Place, Refusal, Sheet, Word};
+use homvaits::{check, margin, move_sheet, plan, Core, Job, Place, Refusal, Sheet, Word};
 
 /// Three tasks that fill one core: 3 1, 7 1 and 13 6, with factors 1, 2 and 4.
 const FULL: [u8; 46] = [
@@ -30,10 +30,9 @@ fn sheets() {
     let changed = |at: usize, byte: u8| {
         let mut bytes = FULL;
         bytes[at] = byte;
-        assert_eq!(
-            check(&bytes).unwrap_err(),
-            Sheet::check(&bytes).unwrap_err()
-        );
+        let refusal = Sheet::check(&bytes).unwrap_err();
+        assert_eq!(check(&bytes).unwrap_err(), refusal);
+        assert_eq!(move_sheet(&bytes).unwrap_err(), refusal);
         Sheet::check(&bytes)
     };
     refused(
@@ -49,10 +48,10 @@ fn sheets() {
         "refused 2 (Mark): the bytes do not begin with T S H",
     );
     refused(
-        changed(3, 2),
+        changed(3, 3),
         Word::Version,
         Place::Whole,
-        "refused 3 (Version): the version is not 1",
+        "refused 3 (Version): the version is not 1 or 2",
     );
     refused(
         changed(5, 65),
@@ -137,6 +136,53 @@ fn sheets() {
         Word::Bare,
         Place::Core(1),
         "refused 10 (Bare) at core 1: the core has no task",
+    );
+}
+
+/// The three tasks in version 2: 0, 1 and 2 in this order on the one core.
+const GROUPED: [u8; 46] = [
+    b'T', b'S', b'H', 2, 0, 3, 1, 0, // header
+    3, 0, 1, 0, 0, 0, 1, 0, 0, 0, // position 0
+    7, 0, 1, 0, 1, 0, 2, 0, 0, 0, // position 1
+    13, 0, 6, 0, 2, 0, 4, 0, 0, 0, // position 2
+    3, 0, 3, 0, 1, 0, 0, 0, // core 0
+];
+
+#[test]
+fn sheets_of_version_2() {
+    assert_eq!(move_sheet(&FULL).unwrap().as_bytes(), GROUPED);
+    assert_eq!(move_sheet(&GROUPED).unwrap().as_bytes(), FULL);
+    let changed = |at: usize, byte: u8| {
+        let mut bytes = GROUPED;
+        bytes[at] = byte;
+        let refusal = Sheet::check(&bytes).unwrap_err();
+        assert_eq!(check(&bytes).unwrap_err(), refusal);
+        move_sheet(&bytes)
+    };
+    let order = "refused 23 (Order): the old numbers, the task counts or the order of a core's tasks are wrong";
+    // a number twice, one too high, the count, the order by period
+    for (at, byte) in [(12, 1), (32, 3), (40, 2), (18, 14)] {
+        refused(changed(at, byte), Word::Order, Place::Whole, order);
+    }
+    refused(
+        changed(41, 1),
+        Word::Spare,
+        Place::Offset(41),
+        "refused 6 (Spare) at byte 41: a spare byte is not zero",
+    );
+    refused(
+        changed(34, 3),
+        Word::Chain,
+        Place::Task(2),
+        "refused 13 (Chain) at task 2: the factor is no multiple of the one before it by priority",
+    );
+
+    let sheet = Sheet::check(&GROUPED).unwrap();
+    refused(
+        Core::start(&sheet, 1),
+        Word::Core,
+        Place::Whole,
+        "refused 9 (Core): there is no such core",
     );
 }
 

@@ -1,6 +1,6 @@
 //! The wrapper as a set uses it.
 
-use homvaits::{check, list, margin, plan};
+use homvaits::{check, list, margin, move_sheet, plan};
 use homvaits::{Core, Job, Place, Refusal, Sheet, Word, LISTING_MAX};
 
 const JOBS: [Job; 2] = [job(5, 1), job(9, 7)];
@@ -117,6 +117,27 @@ fn margins_tell_which_job_may_be_late() {
 }
 
 #[test]
+fn a_moved_sheet_runs_by_the_old_numbers() {
+    // the shorter period is task 1's
+    let jobs = [job(9, 7), job(5, 1)];
+    let moved = move_sheet(plan(&jobs, 1, 0).unwrap().as_bytes()).unwrap();
+    let numbers: Vec<u8> = moved.tasks().map(|task| task.number).collect();
+    assert_eq!(numbers, [0, 1]);
+    let periods: Vec<u16> = moved.tasks().map(|task| task.period).collect();
+    assert_eq!(periods, [9, 5]);
+    // the record at position 0 is that of task 1
+    assert_eq!(moved.as_bytes()[8..13], [5, 0, 1, 0, 1]);
+    let mut core = Core::start(&moved, 0).unwrap();
+    core.release(0).unwrap();
+    core.release(1).unwrap();
+    assert_eq!(core.tick(), Ok(Some(1)));
+    assert_eq!(core.tick(), Ok(Some(0)));
+    let text = LISTING.replace("TSH 1", "TSH 2");
+    let same_order = move_sheet(plan(&JOBS, 1, 0).unwrap().as_bytes()).unwrap();
+    assert_eq!(list(same_order.as_bytes(), &mut [0; LISTING_MAX]), text);
+}
+
+#[test]
 fn clones_go_their_own_ways() {
     let mut core = Core::start(&plan(&JOBS, 1, 0).unwrap(), 0).unwrap();
     let mut other = core.clone();
@@ -156,6 +177,10 @@ fn an_empty_sheet_has_no_core_to_start() {
     assert_eq!((sheet.tasks().len(), sheet.cores().len()), (0, 0));
     let missing = refusal(Word::Core, Place::Whole);
     assert_eq!(Core::start(&sheet, 0), Err(missing));
+    let moved = move_sheet(sheet.as_bytes()).unwrap();
+    assert_eq!(moved.as_bytes(), b"TSH\x02\x00\x00\x00\x00");
+    assert_eq!((moved.tasks().len(), moved.cores().len()), (0, 0));
+    assert_eq!(Core::start(&moved, 0), Err(missing));
     assert_eq!(Core::start_list(&[]).unwrap().tasks(), []);
 }
 

@@ -3,13 +3,14 @@
 //! layout.
 
 mod layout {
-    use reference::MarginAnswer as Margined;
     use reference::{CheckAnswer as Checked, ListAnswer as Listed, PlanAnswer as Planned};
     use reference::{Core, CoreAnswer as Step, Task, TickAnswer as Ticked};
+    use reference::{MarginAnswer as Margined, MoveAnswer as Moved};
     include!("../../../rust/homvaits/src/layout.rs");
 }
 
-use reference::{CheckAnswer, Core, CoreAnswer, ListAnswer, MarginAnswer, PlanAnswer, TickAnswer};
+use reference::{CheckAnswer, ListAnswer, MarginAnswer, MoveAnswer, PlanAnswer};
+use reference::{Core, CoreAnswer, TickAnswer};
 
 extern "C" {
     fn homvaits_check(sheet: *const u8, len: usize) -> CheckAnswer;
@@ -28,6 +29,7 @@ extern "C" {
     fn homvaits_tick(core: Core) -> TickAnswer;
     fn homvaits_list(sheet: *const u8, len: usize, out: *mut u8, out_len: usize) -> ListAnswer;
     fn homvaits_margin(jobs: *const u8, len: usize, number: u64) -> MarginAnswer;
+    fn homvaits_move(sheet: *const u8, len: usize, out: *mut u8, out_len: usize) -> MoveAnswer;
 }
 
 // Every call is total; it reads and writes only the slices it is lent, whose
@@ -69,4 +71,9 @@ pub fn list_into(sheet: &[u8], out: &mut [u8]) -> ListAnswer {
 
 pub fn margin(jobs: &[u8], number: u64) -> MarginAnswer {
     unsafe { homvaits_margin(jobs.as_ptr(), jobs.len(), number) }
+}
+
+pub fn move_sheet(sheet: &[u8], out: &mut [u8]) -> MoveAnswer {
+    let (out, out_len) = (out.as_mut_ptr(), out.len());
+    unsafe { homvaits_move(sheet.as_ptr(), sheet.len(), out, out_len) }
 }

@@ -1,5 +1,6 @@
 //! The dispatcher: starts, single calls on any state, long lists of calls.
 
+use crate::checking::{GROUPED_RULES, RULES};
 use crate::on_time::{jobs_on_time, Entry, Promise};
 use crate::session::{fail, hex, same, Session};
 use inputs::*;
@@ -7,7 +8,8 @@ use reference::{Core, CoreAnswer, TickAnswer};
 
 pub fn must_have_seen(session: &Session) {
     let (none, task) = ("place 0", "a task above 0");
-    session.must_have_seen("start", &crate::checking::RULES);
+    session.must_have_seen("start", &RULES);
+    session.must_have_seen("start", &GROUPED_RULES);
     session.must_have_seen("start", &[(0, "accepted"), (9, "a missing core")]);
     session.must_have_seen("start_list", &[(0, "no tasks"), (0, "tasks")]);
     session.must_have_seen("start_list", &[(4, none), (5, none), (7, task), (8, task)]);
@@ -16,8 +18,11 @@ pub fn must_have_seen(session: &Session) {
     session.must_have_seen("finish", &[(0, "accepted"), (17, none), (20, task)]);
     session.must_have_seen("finish", &[(21, none)]);
     session.must_have_seen("tick", &[(0, "idle"), (0, "served"), (21, none)]);
-    session.must_have_seen("job on time", &[(0, "ended")]);
+    session.must_have_seen("job on time", &[(0, VERSION_1), (0, VERSION_2)]);
 }
+
+const VERSION_1: &str = "of a version 1 sheet";
+const VERSION_2: &str = "of a version 2 sheet";
 
 pub fn round(session: &mut Session, rng: &mut Rng) {
     lists(session, rng);
@@ -57,10 +62,10 @@ fn single_calls(session: &mut Session, rng: &mut Rng) {
 }
 
 fn run_of_sheet(session: &mut Session, rng: &mut Rng) {
-    let bytes = if rng.once_in(2) {
-        planned_sheet(rng)
-    } else {
-        handmade_sheet(rng)
+    let (bytes, version) = match rng.below(4) {
+        0 => (planned_sheet(rng), VERSION_1),
+        1 => (handmade_sheet(rng), VERSION_1),
+        _ => (grouped_sheet(rng), VERSION_2),
     };
     let sheet = reference::accept(&bytes).expect("the sheet is accepted");
     if sheet.cores.is_empty() {
@@ -76,7 +81,9 @@ fn run_of_sheet(session: &mut Session, rng: &mut Rng) {
     let tasks: Vec<Promise> = sheet.by_priority(number).into_iter().map(promise).collect();
     let fresh = start_sheet(session, &bytes, number as u64).core;
     let input = || format!("{} core {number}", hex(&bytes));
-    run(session, rng, fresh, &tasks, input);
+    if run(session, rng, fresh, &tasks, input) > 0 {
+        session.saw("job on time", (0, version));
+    }
 }
 
 fn run_of_list(session: &mut Session, rng: &mut Rng) {
@@ -93,14 +100,15 @@ fn run_of_list(session: &mut Session, rng: &mut Rng) {
     run(session, rng, fresh, &tasks, || hex(&list));
 }
 
-/// A long list of calls from a fresh state, each on the state before it.
+/// A long list of calls from a fresh state, each on the state before it. The
+/// answer is the number of jobs that were owed and ended in time.
 fn run(
     session: &mut Session,
     rng: &mut Rng,
     fresh: Core,
     tasks: &[Promise],
     input: impl Fn() -> String,
-) {
+) -> u64 {
     let style = rng.range(1, 5);
     let mut core = fresh;
     let mut log = Vec::new();
@@ -122,8 +130,10 @@ fn run(
         });
     }
     match jobs_on_time(&log, tasks) {
-        Ok(0) => {}
-        Ok(_) => session.case("job on time", 0, 0, "ended"),
+        Ok(jobs) => {
+            session.cases += (jobs > 0) as u64;
+            jobs
+        }
         Err(what) => {
             let calls: Vec<Call> = log.iter().map(|entry| entry.call).collect();
             fail("the on-time rule", &format!("{} {calls:?}", input()), &what);
@@ -141,7 +151,7 @@ pub fn start(session: &mut Session, rng: &mut Rng, bytes: &[u8]) {
     start_sheet(session, bytes, any_number(rng, cores));
 }
 
-fn start_sheet(session: &mut Session, bytes: &[u8], core: u64) -> CoreAnswer {
+pub fn start_sheet(session: &mut Session, bytes: &[u8], core: u64) -> CoreAnswer {
     let reference = reference::start_sheet(bytes, core);
     let library = binding::start_sheet(bytes, core);
     let input = || format!("{} core {core}", hex(bytes));

@@ -6,11 +6,14 @@ use inputs::Rng;
 use reference::{accept, Fraction};
 
 pub fn must_have_seen(session: &Session) {
-    session.must_have_seen("list", &[(0, "an accepted sheet"), (0, "a refused sheet")]);
+    session.must_have_seen("list", &[(0, VERSION_1), (0, VERSION_2), (0, REFUSED)]);
     session.must_have_seen("list", &[(0, WHOLE), (0, ROUNDED), (0, NEARLY_FULL)]);
     session.must_have_seen("list", &[(16, "place 0")]);
 }
 
+const VERSION_1: &str = "an accepted sheet of version 1";
+const VERSION_2: &str = "an accepted sheet of version 2";
+const REFUSED: &str = "a refused sheet";
 const WHOLE: &str = "a load of whole thousandths, below 1000";
 const ROUNDED: &str = "a load rounded up to at most 999";
 const NEARLY_FULL: &str = "a load rounded up to 1000";
@@ -31,6 +34,11 @@ fn rounding(load: Fraction) -> &'static str {
 pub fn list(session: &mut Session, rng: &mut Rng, sheet: &[u8]) {
     let small = rng.range(0, 8191);
     let room = rng.pick(&[8192, 8192, 8192, 8193, 9000, 8191, small]) as usize;
+    list_into(session, rng, sheet, room);
+}
+
+/// The listing of these bytes, compared; nothing where it is refused.
+pub fn list_into(session: &mut Session, rng: &mut Rng, sheet: &[u8], room: usize) -> Vec<u8> {
     let mut ours = Lent::new(room, rng.byte());
     let mut theirs = ours.clone();
     let reference = reference::list_into(sheet, ours.lend());
@@ -40,8 +48,9 @@ pub fn list(session: &mut Session, rng: &mut Rng, sheet: &[u8]) {
     same_bytes("list", input, &ours, &theirs);
     let accepted = accept(sheet);
     let kind = match accepted {
-        Ok(_) => "an accepted sheet",
-        Err(_) => "a refused sheet",
+        Ok(_) if reference::version(sheet) == 2 => VERSION_2,
+        Ok(_) => VERSION_1,
+        Err(_) => REFUSED,
     };
     session.case("list", reference.refusal, reference.place, kind);
     if let (0, Ok(sheet)) = (reference.refusal, accepted) {
@@ -50,4 +59,5 @@ pub fn list(session: &mut Session, rng: &mut Rng, sheet: &[u8]) {
             .filter(|&load| load < Fraction::whole(1))
             .for_each(|load| session.saw("list", (0, rounding(load))));
     }
+    theirs.lend()[..library.length as usize].to_vec()
 }

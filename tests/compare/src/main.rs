@@ -6,7 +6,9 @@ mod dispatching;
 mod lent;
 mod listing;
 mod margins;
+mod moving;
 mod on_time;
+mod order;
 mod planning;
 mod session;
 
@@ -29,6 +31,7 @@ fn main() {
         planning::round(&mut session, &mut rng);
         dispatching::round(&mut session, &mut rng);
         margins::round(&mut session, &mut rng);
+        moving::round(&mut session, &mut rng);
     }
 
     checking::must_have_seen(&session);
@@ -36,5 +39,6 @@ fn main() {
     dispatching::must_have_seen(&session);
     listing::must_have_seen(&session);
     margins::must_have_seen(&session);
+    moving::must_have_seen(&session);
     println!("compare: {} cases, 0 differences", session.cases);
 }

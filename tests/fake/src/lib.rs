@@ -1,6 +1,8 @@
 //! The C interface over the reference itself. With the feature `wrong` it
 //! makes one deliberate mistake, which the harness must notice.
 
+mod grouped;
+
 use reference::*;
 use std::slice::{from_raw_parts, from_raw_parts_mut};
 
@@ -22,8 +24,9 @@ fn wrong(_mistake: u32) -> bool {
 /// `sheet` has `len` bytes; so in all calls below.
 #[no_mangle]
 pub unsafe extern "C" fn homvaits_check(sheet: *const u8, len: usize) -> CheckAnswer {
-    let mut answer = check(from_raw_parts(sheet, len));
-    // 1: overload overlooked. 2: the place of Bare without the 64.
+    let mut answer = grouped::checked(from_raw_parts(sheet, len), wrong);
+    // 1: overload overlooked. 2: the place of Bare without the 64. 3 to 9: in
+    // version 2.
     if wrong(1) && answer.refusal == 14 {
         answer = CheckAnswer::default();
     }
@@ -45,26 +48,26 @@ pub unsafe extern "C" fn homvaits_plan(
     out_len: usize,
 ) -> PlanAnswer {
     let (jobs, out) = (from_raw_parts(jobs, len), from_raw_parts_mut(out, out_len));
-    // 3: a limit cut to a byte. 4: bytes past the sheet cleared. 5: bytes
-    // written before a refusal. 6: No fit for each list. 7: no Sr on base 3.
-    // 8: DCT before Sr on base 3.
-    let limit = if wrong(3) { limit as u8 as u64 } else { limit };
+    // 10: a limit cut to a byte. 11: bytes past the sheet cleared. 12: bytes
+    // written before a refusal. 13: No fit for each list. 14: no Sr on base 3.
+    // 15: DCT before Sr on base 3.
+    let limit = if wrong(10) { limit as u8 as u64 } else { limit };
     let [sr_2, sr_3, dct] = ROUNDS;
-    let rounds: &[Round] = if wrong(7) {
+    let rounds: &[Round] = if wrong(14) {
         &[sr_2, dct]
-    } else if wrong(8) {
+    } else if wrong(15) {
         &[sr_2, dct, sr_3]
     } else {
         &ROUNDS
     };
     let answer = plan_by(rounds, jobs, limit, start, out);
-    if wrong(4) && answer.refusal == 0 {
+    if wrong(11) && answer.refusal == 0 {
         out[answer.length as usize..].fill(0);
     }
-    if wrong(5) && answer.refusal == 15 {
+    if wrong(12) && answer.refusal == 15 {
         out[0] = b'T';
     }
-    if wrong(6) && answer.refusal == 0 {
+    if wrong(13) && answer.refusal == 0 {
         return PlanAnswer {
             refusal: 15,
             ..PlanAnswer::default()
@@ -77,10 +80,15 @@ pub unsafe extern "C" fn homvaits_plan(
 /// See `homvaits_check`.
 #[no_mangle]
 pub unsafe extern "C" fn homvaits_start(sheet: *const u8, len: usize, core: u64) -> CoreAnswer {
-    // 9: a core number cut to a byte. 10: a start that does nothing.
-    let core = if wrong(9) { core as u8 as u64 } else { core };
-    let mut answer = start_sheet(from_raw_parts(sheet, len), core);
-    if wrong(10) {
+    let sheet = from_raw_parts(sheet, len);
+    // 16: a core number cut to a byte. 17: a start that does nothing. 18: tasks
+    // by position.
+    let core = if wrong(16) { core as u8 as u64 } else { core };
+    if wrong(18) {
+        return grouped::started_by_position(sheet, core);
+    }
+    let mut answer = start_sheet(sheet, core);
+    if wrong(17) {
         answer.core = Core::EMPTY;
     }
     answer
@@ -91,8 +99,8 @@ pub unsafe extern "C" fn homvaits_start(sheet: *const u8, len: usize, core: u64)
 #[no_mangle]
 pub unsafe extern "C" fn homvaits_start_list(jobs: *const u8, len: usize) -> CoreAnswer {
     let mut answer = start_list(from_raw_parts(jobs, len));
-    // 11: a place past the tasks not zero
-    if wrong(11) && answer.core.count < 64 {
+    // 19: a place past the tasks not zero
+    if wrong(19) && answer.core.count < 64 {
         answer.core.tasks[63].number = 63;
     }
     answer
@@ -101,8 +109,8 @@ pub unsafe extern "C" fn homvaits_start_list(jobs: *const u8, len: usize) -> Cor
 #[no_mangle]
 pub extern "C" fn homvaits_release(core: Core, number: u64) -> CoreAnswer {
     let mut answer = release(core, number);
-    // 12: every release Early. 13: no ticks left to the job.
-    if wrong(12) && answer.refusal == 0 {
+    // 20: every release Early. 21: no ticks left to the job.
+    if wrong(20) && answer.refusal == 0 {
         let place = number as u16;
         return CoreAnswer {
             refusal: 18,
@@ -110,7 +118,7 @@ pub extern "C" fn homvaits_release(core: Core, number: u64) -> CoreAnswer {
             core,
         };
     }
-    if wrong(13) && answer.refusal == 0 {
+    if wrong(21) && answer.refusal == 0 {
         let count = answer.core.count as usize;
         let tasks = answer.core.tasks[..count].iter_mut();
         tasks
@@ -123,8 +131,8 @@ pub extern "C" fn homvaits_release(core: Core, number: u64) -> CoreAnswer {
 #[no_mangle]
 pub extern "C" fn homvaits_finish(core: Core, number: u64) -> CoreAnswer {
     let mut answer = finish(core, number);
-    // 14: the age counted from the end of the job
-    if wrong(14) && answer.refusal == 0 {
+    // 22: the age counted from the end of the job
+    if wrong(22) && answer.refusal == 0 {
         let count = answer.core.count as usize;
         let tasks = answer.core.tasks[..count].iter_mut();
         tasks
@@ -137,15 +145,15 @@ pub extern "C" fn homvaits_finish(core: Core, number: u64) -> CoreAnswer {
 #[no_mangle]
 pub extern "C" fn homvaits_tick(core: Core) -> TickAnswer {
     let mut answer = tick(core);
-    // 15: only the first task is served. 16: ages stand on idle ticks. 17: the
+    // 23: only the first task is served. 24: ages stand on idle ticks. 25: the
     // places past the tasks cleared.
-    if wrong(15) && answer.refusal == 0 && core.count > 0 && core.tasks[0].left == 0 {
+    if wrong(23) && answer.refusal == 0 && core.count > 0 && core.tasks[0].left == 0 {
         answer.task = IDLE;
     }
-    if wrong(16) && answer.task == IDLE {
+    if wrong(24) && answer.task == IDLE {
         answer.core = core;
     }
-    if wrong(17) && answer.refusal == 0 {
+    if wrong(25) && answer.refusal == 0 {
         answer.core.tasks[core.count as usize..].fill(Task::default());
     }
     answer
@@ -161,16 +169,23 @@ pub unsafe extern "C" fn homvaits_list(
     out_len: usize,
 ) -> ListAnswer {
     let (sheet, out) = (from_raw_parts(sheet, len), from_raw_parts_mut(out, out_len));
-    // 18: the last line feed left out. 19: Tight by the text's length only.
-    // 20: loads rounded down.
-    if wrong(20) && out.len() >= LISTING_ROOM {
+    // 26: the last line feed left out. 27: Tight by the text's length only.
+    // 28: loads rounded down. 29: tasks by position. 30: each sheet as one of
+    // version 1.
+    if wrong(28) && out.len() >= LISTING_ROOM {
         return put(&loads_rounded_down(sheet), out);
     }
+    if wrong(29) && out.len() >= LISTING_ROOM {
+        return put(&grouped::listed_by_position(sheet), out);
+    }
+    if wrong(30) && out.len() >= LISTING_ROOM {
+        return put(&grouped::listed_as_version_1(sheet), out);
+    }
     let mut answer = list_into(sheet, out);
-    if wrong(18) && answer.refusal == 0 {
+    if wrong(26) && answer.refusal == 0 {
         answer.length -= 1;
     }
-    if wrong(19) && answer.refusal == 16 {
+    if wrong(27) && answer.refusal == 16 {
         let text = list(sheet);
         if text.len() <= out.len() {
             answer = put(&text, out);
@@ -184,24 +199,37 @@ pub unsafe extern "C" fn homvaits_list(
 #[no_mangle]
 pub unsafe extern "C" fn homvaits_margin(jobs: *const u8, len: usize, number: u64) -> MarginAnswer {
     let jobs = from_raw_parts(jobs, len);
-    // 21: t / p rounded down. 22: of equal periods none above another. 23: a
-    // missing tick as one to spare. 24: a number cut to a byte.
-    let number = if wrong(24) {
+    // 31: t / p rounded down. 32: of equal periods none above another. 33: a
+    // missing tick as one to spare. 34: a number cut to a byte.
+    let number = if wrong(34) {
         number as u8 as u64
     } else {
         number
     };
     let mut answer = margin(jobs, number);
-    if wrong(21) && answer.refusal == 0 {
+    if wrong(31) && answer.refusal == 0 {
         answer.margin = rounded_down(jobs, number as usize);
     }
-    if wrong(22) && answer.refusal == 0 {
+    if wrong(32) && answer.refusal == 0 {
         answer.margin = without_ties(jobs, number as usize);
     }
-    if wrong(23) {
+    if wrong(33) {
         answer.margin = answer.margin.abs();
     }
     answer
+}
+
+/// # Safety
+/// See `homvaits_list`.
+#[no_mangle]
+pub unsafe extern "C" fn homvaits_move(
+    sheet: *const u8,
+    len: usize,
+    out: *mut u8,
+    out_len: usize,
+) -> MoveAnswer {
+    let (sheet, out) = (from_raw_parts(sheet, len), from_raw_parts_mut(out, out_len));
+    grouped::moved(sheet, out, wrong)
 }
 
 fn put(text: &[u8], out: &mut [u8]) -> ListAnswer {

@@ -2,14 +2,19 @@
 
 mod calls;
 mod cores;
+mod grouped;
 mod jobs;
 mod rng;
 mod sheets;
 
 pub use calls::{any_number, random_call, Call};
 pub use cores::{any_core, CORE_DAMAGES};
+pub use grouped::{
+    damaged_grouped, grouped_sheet, likely_grouped, random_grouped, regrouped, GROUPED_DAMAGES,
+};
 pub use jobs::{damaged_jobs, job_list, tight_list, JOB_DAMAGES};
 pub use rng::Rng;
 pub use sheets::{
-    damaged_sheet, handmade_sheet, likely_sheet, planned_sheet, random_bytes, SHEET_DAMAGES,
+    damaged_sheet, handmade_sheet, likely_sheet, longest_sheet, planned_sheet, random_bytes,
+    SHEET_DAMAGES,
 };

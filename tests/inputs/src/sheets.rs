@@ -51,6 +51,29 @@ pub fn handmade_sheet(rng: &mut Rng) -> Vec<u8> {
     Sheet { tasks, cores }.write()
 }
 
+/// An accepted sheet of 64 tasks on 8 cores.
+pub fn longest_sheet(rng: &mut Rng) -> Vec<u8> {
+    let longest = rng.pick(&[70, 300, LONGEST_PERIOD]);
+    let mut tasks: Vec<TaskRecord> = (0..64)
+        .map(|i| TaskRecord {
+            period: rng.range(64, longest),
+            budget: 1,
+            core: i % 8,
+            factor: 1,
+        })
+        .collect();
+    rng.shuffle(&mut tasks);
+    let core = CoreRecord {
+        pivot: 64,
+        divisor: 1,
+    };
+    Sheet {
+        tasks,
+        cores: vec![core; 8],
+    }
+    .write()
+}
+
 fn handmade_core(rng: &mut Rng, count: u64) -> (CoreRecord, Vec<TaskRecord>) {
     let pivot = match rng.below(4) {
         0 => rng.range(1, 12),
@@ -190,22 +213,22 @@ pub fn damaged_sheet(rng: &mut Rng, sheet: &[u8], kind: usize) -> Vec<u8> {
 }
 
 /// Where the records of a sheet of the right length stand.
-struct Places {
-    tasks: usize,
-    cores: usize,
+pub(crate) struct Places {
+    pub(crate) tasks: usize,
+    pub(crate) cores: usize,
 }
 
 impl Places {
-    fn of(bytes: &[u8]) -> Option<Places> {
+    pub(crate) fn of(bytes: &[u8]) -> Option<Places> {
         let (tasks, cores) = (*bytes.get(5)? as usize, *bytes.get(6)? as usize);
         (bytes.len() == 8 + 10 * tasks + 8 * cores).then_some(Places { tasks, cores })
     }
 
-    fn task(&self, number: usize) -> usize {
+    pub(crate) fn task(&self, number: usize) -> usize {
         8 + 10 * number
     }
 
-    fn core(&self, number: usize) -> usize {
+    pub(crate) fn core(&self, number: usize) -> usize {
         8 + 10 * self.tasks + 8 * number
     }
 }
@@ -346,7 +369,7 @@ fn near(rng: &mut Rng, number: u64) -> u64 {
     ])
 }
 
-fn get16(bytes: &[u8], at: usize) -> u64 {
+pub(crate) fn get16(bytes: &[u8], at: usize) -> u64 {
     u16::from_le_bytes([bytes[at], bytes[at + 1]]) as u64
 }
 
@@ -354,7 +377,7 @@ fn get32(bytes: &[u8], at: usize) -> u64 {
     get16(bytes, at) + 65_536 * get16(bytes, at + 2)
 }
 
-fn put16(bytes: &mut [u8], at: usize, number: u64) {
+pub(crate) fn put16(bytes: &mut [u8], at: usize, number: u64) {
     bytes[at..at + 2].copy_from_slice(&(number as u16).to_le_bytes());
 }
 

@@ -61,6 +61,14 @@ pub struct MarginAnswer {
 }
 
 #[repr(C)]
+#[derive(Clone, Copy, Debug, Default, PartialEq, Eq)]
+pub struct MoveAnswer {
+    pub refusal: u8,
+    pub place: u16,
+    pub length: u16,
+}
+
+#[repr(C)]
 #[derive(Clone, Copy, Default, PartialEq, Eq)]
 pub struct Task {
     pub period: u16,
@@ -133,6 +141,16 @@ impl From<Refusal> for MarginAnswer {
             refusal: refusal.number,
             place: refusal.place,
             ..MarginAnswer::default()
+        }
+    }
+}
+
+impl From<Refusal> for MoveAnswer {
+    fn from(refusal: Refusal) -> Self {
+        MoveAnswer {
+            refusal: refusal.number,
+            place: refusal.place,
+            ..MoveAnswer::default()
         }
     }
 }

@@ -1,6 +1,7 @@
-//! Rules 1 to 14, each over the whole sheet before the next.
+//! Rules 1 to 14, and 23 between 8 and 9, each over the whole sheet before the
+//! next.
 
-use crate::sheet::{is_spare, length, number, Sheet};
+use crate::sheet::{is_spare, length, version, Grouping, Sheet, TaskRecord};
 use crate::{
     refuse_at, refuse_if, CheckAnswer, Fraction, Outcome, LARGEST_FACTOR, LONGEST_PERIOD,
     MOST_CORES, MOST_TASKS,
@@ -17,30 +18,48 @@ pub fn check(bytes: &[u8]) -> CheckAnswer {
     }
 }
 
-/// The figures of an accepted sheet, or the first refusal that applies.
+/// The figures of an accepted sheet of either version, or the first refusal
+/// that applies.
 pub fn accept(bytes: &[u8]) -> Outcome<Sheet> {
     refuse_if(1, bytes.len() < 8)?;
     refuse_if(2, !bytes.starts_with(b"TSH"))?;
-    refuse_if(3, number(&bytes[3..5]) != 1)?;
+    let version = version(bytes);
+    refuse_if(3, version != 1 && version != 2)?;
     let (n, c) = (bytes[5] as usize, bytes[6] as usize);
     refuse_if(4, n > MOST_TASKS || c > MOST_CORES)?;
     refuse_if(5, bytes.len() != length(n, c))?;
-    let spare_in_use = |&at: &usize| is_spare(at, n) && bytes[at] != 0;
+    let spare_in_use = |&at: &usize| is_spare(version, at, n) && bytes[at] != 0;
     refuse_at(6, (0..bytes.len()).find(spare_in_use))?;
 
     let sheet = Sheet::read(bytes, n, c);
-    let (tasks, cores) = (&sheet.tasks, &sheet.cores);
-    let first_task = |broken: &dyn Fn(usize) -> bool| (0..n).find(|&i| broken(i));
-    let first_core = |broken: &dyn Fn(usize) -> bool| (0..c).find(|&k| broken(k)).map(core_place);
-    let period = |p: u64| (1..=LONGEST_PERIOD).contains(&p);
-    let factor = |m: u64| (1..=LARGEST_FACTOR).contains(&m);
-
-    refuse_at(7, first_task(&|i| !period(tasks[i].period)))?;
+    let first_task = |broken: &dyn Fn(&TaskRecord) -> bool| sheet.tasks.iter().position(broken);
+    refuse_at(7, first_task(&|task| !period(task.period)))?;
     refuse_at(
         8,
-        first_task(&|i| !(1..=tasks[i].period).contains(&tasks[i].budget)),
+        first_task(&|task| !(1..=task.period).contains(&task.budget)),
     )?;
-    refuse_at(9, first_task(&|i| tasks[i].core >= c))?;
+    if version == 1 {
+        refuse_at(9, first_task(&|task| task.core >= c))?;
+        fits(&sheet)?;
+        Ok(sheet)
+    } else {
+        let grouping = Grouping::read(bytes, n, c);
+        refuse_if(23, !in_order(&sheet, &grouping))?;
+        let positions = by_position(sheet, &grouping);
+        fits(&positions)?;
+        Ok(by_number(positions, &grouping))
+    }
+}
+
+/// Rules 10 to 14, for tasks whose cores are there: of version 1 the tasks by
+/// number, of version 2 the tasks by position. These rise on each core in the
+/// period and among equal periods in the old number, so that both are sorted
+/// alike.
+fn fits(sheet: &Sheet) -> Outcome<()> {
+    let (tasks, cores) = (&sheet.tasks, &sheet.cores);
+    let first_task = |broken: &dyn Fn(usize) -> bool| (0..tasks.len()).find(|&i| broken(i));
+    let first_core =
+        |broken: &dyn Fn(usize) -> bool| (0..cores.len()).find(|&k| broken(k)).map(core_place);
     refuse_at(10, first_core(&|k| tasks.iter().all(|task| task.core != k)))?;
     refuse_at(11, first_task(&|i| !factor(tasks[i].factor)))?;
     refuse_at(
@@ -51,9 +70,46 @@ pub fn accept(bytes: &[u8]) -> Outcome<Sheet> {
         12,
         first_task(&|i| sheet.accelerated(i) > Fraction::whole(tasks[i].period as u128)),
     )?;
-    refuse_at(13, (0..c).find_map(|k| broken_chain(&sheet, k)))?;
-    refuse_at(14, first_core(&|k| sheet.load(k) > Fraction::whole(1)))?;
-    Ok(sheet)
+    refuse_at(13, (0..cores.len()).find_map(|k| broken_chain(sheet, k)))?;
+    refuse_at(14, first_core(&|k| sheet.load(k) > Fraction::whole(1)))
+}
+
+/// Rule 23, of records by position: each old number once, counts that add up,
+/// and each core by priority.
+fn in_order(records: &Sheet, grouping: &Grouping) -> bool {
+    let n = records.tasks.len();
+    let each_once = (0..n).all(|number| grouping.numbers.contains(&number));
+    if !each_once || grouping.counts.iter().sum::<usize>() != n {
+        return false;
+    }
+    let cores = grouping.cores();
+    let priority = |i: usize| (records.tasks[i].period, grouping.numbers[i]);
+    (1..n).all(|i| cores[i - 1] != cores[i] || priority(i - 1) < priority(i))
+}
+
+/// The records with the cores of their positions.
+fn by_position(mut records: Sheet, grouping: &Grouping) -> Sheet {
+    for (task, core) in records.tasks.iter_mut().zip(grouping.cores()) {
+        task.core = core;
+    }
+    records
+}
+
+/// Positions by their old numbers.
+fn by_number(positions: Sheet, grouping: &Grouping) -> Sheet {
+    let mut tasks = positions.tasks.clone();
+    for (task, &number) in positions.tasks.iter().zip(&grouping.numbers) {
+        tasks[number] = *task;
+    }
+    Sheet { tasks, ..positions }
+}
+
+fn period(number: u64) -> bool {
+    (1..=LONGEST_PERIOD).contains(&number)
+}
+
+fn factor(number: u64) -> bool {
+    (1..=LARGEST_FACTOR).contains(&number)
 }
 
 fn core_place(core: usize) -> usize {

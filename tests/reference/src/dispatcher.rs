@@ -5,7 +5,8 @@ use crate::{
     accept, refuse_if, Core, CoreAnswer, Outcome, Refusal, Task, TickAnswer, IDLE, LONGEST_PERIOD,
 };
 
-/// Start a core of a sheet: 1 to 14, then 9 where there is no such core.
+/// Start a core of a sheet of either version, its tasks by number: the
+/// checker's refusals, then 9 where there is no such core.
 pub fn start_sheet(sheet: &[u8], core: u64) -> CoreAnswer {
     answer(Core::EMPTY, sheet_state(sheet, core))
 }

@@ -11,11 +11,13 @@ mod fraction;
 mod jobs;
 mod listing;
 mod margin;
+mod mover;
 mod planner;
 mod sheet;
 
 pub use answers::{
-    CheckAnswer, Core, CoreAnswer, ListAnswer, MarginAnswer, PlanAnswer, Task, TickAnswer, IDLE,
+    CheckAnswer, Core, CoreAnswer, ListAnswer, MarginAnswer, MoveAnswer, PlanAnswer, Task,
+    TickAnswer, IDLE,
 };
 pub use checker::{accept, check};
 pub use dispatcher::{finish, release, start_list, start_sheet, tick};
@@ -23,10 +25,11 @@ pub use fraction::Fraction;
 pub use jobs::Job;
 pub use listing::{list, list_into, LISTING_ROOM};
 pub use margin::margin;
+pub use mover::move_sheet;
 pub use planner::{
     construction_of, dct, plan, plan_by, ring_order, sr, trials, Construction, Round, Trial, ROUNDS,
 };
-pub use sheet::{CoreRecord, Sheet, TaskRecord, LONGEST_SHEET};
+pub use sheet::{version, CoreRecord, Grouping, Sheet, TaskRecord, LONGEST_SHEET};
 
 /// The ranges of counts, periods and factors (docs/SHEET.md, section 2).
 pub const MOST_TASKS: usize = 64;

@@ -1,16 +1,16 @@
 //! The listing: the text of one sheet.
 
-use crate::{accept, refuse_if, Sheet};
-use crate::{ListAnswer, Refusal};
+use crate::sheet::version;
+use crate::{accept, refuse_if, ListAnswer, Refusal, Sheet};
 
 /// The least output that the listing call takes.
 pub const LISTING_ROOM: usize = 8192;
 
 /// The text of a sheet, or its one line of refusal.
-pub fn list(sheet: &[u8]) -> Vec<u8> {
-    let text = match accept(sheet) {
+pub fn list(bytes: &[u8]) -> Vec<u8> {
+    let text = match accept(bytes) {
         Err(Refusal { number, place }) => format!("refused {number} place {place}\n"),
-        Ok(sheet) => text(&sheet),
+        Ok(sheet) => text(version(bytes), &sheet),
     };
     text.into_bytes()
 }
@@ -28,9 +28,10 @@ pub fn list_into(sheet: &[u8], out: &mut [u8]) -> ListAnswer {
     }
 }
 
-fn text(sheet: &Sheet) -> String {
+/// The tasks by number, in either version.
+fn text(version: u64, sheet: &Sheet) -> String {
     let (n, c) = (sheet.tasks.len(), sheet.cores.len());
-    let mut text = format!("TSH 1 tasks {n} cores {c}\n");
+    let mut text = format!("TSH {version} tasks {n} cores {c}\n");
     for (i, task) in sheet.tasks.iter().enumerate() {
         text += &format!(
             "task {i} core {} period {} budget {} factor {} within {}\n",

@@ -1,4 +1,4 @@
-//! The sheet's layout and its figures.
+//! The sheet's layout in both versions, and its figures.
 
 use crate::Fraction;
 
@@ -22,10 +22,21 @@ pub struct CoreRecord {
     pub divisor: u64,
 }
 
+/// The figures of a sheet, its tasks by number.
 #[derive(Clone, Debug, PartialEq, Eq)]
 pub struct Sheet {
     pub tasks: Vec<TaskRecord>,
     pub cores: Vec<CoreRecord>,
+}
+
+/// What version 2 writes in the places of the cores and of the first spare
+/// bytes of the core records.
+#[derive(Clone, Debug, PartialEq, Eq)]
+pub struct Grouping {
+    /// The old number of the task at each position.
+    pub numbers: Vec<usize>,
+    /// How many tasks each core has.
+    pub counts: Vec<usize>,
 }
 
 /// An unsigned number, low byte first.
@@ -38,23 +49,73 @@ pub fn length(tasks: usize, cores: usize) -> usize {
     HEADER + TASK_RECORD * tasks + CORE_RECORD * cores
 }
 
-/// Whether the byte at this offset is spare in a sheet of so many tasks.
-pub fn is_spare(offset: usize, tasks: usize) -> bool {
+/// The version of bytes that have a header.
+pub fn version(bytes: &[u8]) -> u64 {
+    number(&bytes[3..5])
+}
+
+/// Whether the byte at this offset is spare in a sheet of this version with so
+/// many tasks.
+pub fn is_spare(version: u64, offset: usize, tasks: usize) -> bool {
     let cores_at = length(tasks, 0);
     if offset < HEADER {
         offset == 7
     } else if offset < cores_at {
         (offset - HEADER) % TASK_RECORD == 5
     } else {
-        matches!((offset - cores_at) % CORE_RECORD, 2 | 3)
+        match (offset - cores_at) % CORE_RECORD {
+            // the count of a version 2 core
+            2 => version == 1,
+            at => at == 3,
+        }
+    }
+}
+
+/// The task records and the core records of bytes that have the length of these
+/// counts.
+fn parts(bytes: &[u8], tasks: usize, cores: usize) -> (&[u8], &[u8]) {
+    assert_eq!(bytes.len(), length(tasks, cores));
+    bytes[HEADER..].split_at(TASK_RECORD * tasks)
+}
+
+impl Grouping {
+    /// The grouping of bytes that have the length of these counts.
+    pub fn read(bytes: &[u8], tasks: usize, cores: usize) -> Grouping {
+        let (task_part, core_part) = parts(bytes, tasks, cores);
+        Grouping {
+            numbers: task_part
+                .chunks(TASK_RECORD)
+                .map(|record| record[4] as usize)
+                .collect(),
+            counts: core_part
+                .chunks(CORE_RECORD)
+                .map(|record| record[2] as usize)
+                .collect(),
+        }
+    }
+
+    /// The grouping of a sheet's tasks: core by core, each core by priority.
+    pub fn of(sheet: &Sheet) -> Grouping {
+        let cores: Vec<Vec<usize>> = (0..sheet.cores.len())
+            .map(|core| sheet.by_priority(core))
+            .collect();
+        Grouping {
+            counts: cores.iter().map(Vec::len).collect(),
+            numbers: cores.concat(),
+        }
+    }
+
+    /// The core of each position: the first count has the first positions.
+    pub fn cores(&self) -> Vec<usize> {
+        let positions = |(core, &count): (usize, &usize)| vec![core; count];
+        self.counts.iter().enumerate().flat_map(positions).collect()
     }
 }
 
 impl Sheet {
-    /// The figures of bytes that have the length of these counts.
+    /// The figures of bytes that have the length of these counts: of version 1.
     pub fn read(bytes: &[u8], tasks: usize, cores: usize) -> Sheet {
-        assert_eq!(bytes.len(), length(tasks, cores));
-        let (task_part, core_part) = bytes[HEADER..].split_at(TASK_RECORD * tasks);
+        let (task_part, core_part) = parts(bytes, tasks, cores);
         Sheet {
             tasks: task_part
                 .chunks(TASK_RECORD)
@@ -75,22 +136,35 @@ impl Sheet {
         }
     }
 
-    /// The sheet's bytes, for figures that fit their fields.
+    /// The bytes of version 1, for figures that fit their fields.
     pub fn write(&self) -> Vec<u8> {
-        let mut bytes = b"TSH\x01\x00".to_vec();
-        bytes.extend([self.tasks.len() as u8, self.cores.len() as u8, 0]);
+        let mut bytes = self.header(1);
         for task in &self.tasks {
-            bytes.extend((task.period as u16).to_le_bytes());
-            bytes.extend((task.budget as u16).to_le_bytes());
-            bytes.extend([task.core as u8, 0]);
-            bytes.extend((task.factor as u32).to_le_bytes());
+            bytes.extend(task.write(task.core));
         }
         for core in &self.cores {
-            bytes.extend((core.pivot as u16).to_le_bytes());
-            bytes.extend([0, 0]);
-            bytes.extend((core.divisor as u32).to_le_bytes());
+            bytes.extend(core.write(0));
         }
         bytes
+    }
+
+    /// The bytes of version 2, for figures that fit their fields and cores that
+    /// are there.
+    pub fn write_grouped(&self) -> Vec<u8> {
+        let Grouping { numbers, counts } = Grouping::of(self);
+        let mut bytes = self.header(2);
+        for number in numbers {
+            bytes.extend(self.tasks[number].write(number));
+        }
+        for (core, count) in self.cores.iter().zip(counts) {
+            bytes.extend(core.write(count));
+        }
+        bytes
+    }
+
+    fn header(&self, version: u8) -> Vec<u8> {
+        let (tasks, cores) = (self.tasks.len() as u8, self.cores.len() as u8);
+        vec![b'T', b'S', b'H', version, 0, tasks, cores, 0]
     }
 
     /// The numbers of a core's tasks in priority order.
@@ -125,6 +199,27 @@ impl Sheet {
             .map(|&i| (self.tasks[i].budget, self.tasks[i].factor))
             .collect();
         load(&tasks, self.cores[core])
+    }
+}
+
+impl TaskRecord {
+    /// The record with this byte 4: the core or the old number.
+    fn write(&self, byte: usize) -> Vec<u8> {
+        let mut record = (self.period as u16).to_le_bytes().to_vec();
+        record.extend((self.budget as u16).to_le_bytes());
+        record.extend([byte as u8, 0]);
+        record.extend((self.factor as u32).to_le_bytes());
+        record
+    }
+}
+
+impl CoreRecord {
+    /// The record with this byte 2: 0 or the count.
+    fn write(&self, byte: usize) -> Vec<u8> {
+        let mut record = (self.pivot as u16).to_le_bytes().to_vec();
+        record.extend([byte as u8, 0]);
+        record.extend((self.divisor as u32).to_le_bytes());
+        record
     }
 }
 

@@ -5,9 +5,10 @@ use Rattle.checker.proofs.all_rules.Tie as tie
 use Rattle.checker.proofs.all_rules.Reads as reads
 use Rattle.checker.proofs.all_rules.Lts as lts
 use Rattle.checker.proofs.frame.framing.Reads as framing-reads
-use Rattle.checker.proofs.record_rules.Reads as record-rules-reads
 use Rattle.checker.proofs.frame.spare_rules.Reads as spare-rules-reads
+use Rattle.checker.proofs.record_rules.Reads as record-rules-reads
 use Rattle.sheet.proofs.byte.Reads as byte-reads
+use Rattle.sheet.proofs.is_grouped.Reads as is-grouped-reads
 
 framing-requires : tie.Need-framing-requires
 framing-requires c κs = search needs
@@ -26,6 +27,9 @@ byte-requires c κs = search needs
 
 byte-requires-2 : tie.Need-byte-requires-2
 byte-requires-2 c κs = search needs
+
+is-grouped-requires : tie.Need-is-grouped-requires
+is-grouped-requires c κs = search needs
 
 sub-records : tie.Need-sub-records
 sub-records c = search (records-long, needs)
@@ -48,23 +52,8 @@ returns-2 c = search spare-broken
 enum-told-4 : tie.Need-enum-told-4
 enum-told-4 c = search needs
 
-cast-at : tie.Need-cast-at
-cast-at c = search needs
-
-mul-at : tie.Need-mul-at
-mul-at c = search needs
-
-sub-record-rules : tie.Need-sub-record-rules
-sub-record-rules c = search (cores-long, needs)
-
-part-record-rules-start : tie.Need-part-record-rules-start
-part-record-rules-start c = search (cores-long, needs)
-
-part-record-rules-end : tie.Need-part-record-rules-end
-part-record-rules-end c = search needs
-
 record-rules-requires : tie.Need-record-rules-requires
-record-rules-requires c κs = search tasks-few
+record-rules-requires c κs = (search tasks-few, search cores-long)
 
 returns-3 : tie.Need-returns-3
 returns-3 c = search records-found
@@ -79,6 +68,7 @@ all-rules-spec =
     enum-told-2
     byte-requires
     byte-requires-2
+    is-grouped-requires
     sub-records
     part-records-start
     part-records-end
@@ -86,10 +76,5 @@ all-rules-spec =
     enum-told-3
     returns-2
     enum-told-4
-    cast-at
-    mul-at
-    sub-record-rules
-    part-record-rules-start
-    part-record-rules-end
     record-rules-requires
     returns-3)

@@ -1,5 +1,5 @@
 use borrow.Author.Needs.{needs}
-use Rattle.dispatcher.proofs.Starts.{sheet-refused, sheet-no-core, sheet-header, sheet-few, sheet-starts, sheet-timely, refused-timely}
+use Rattle.dispatcher.proofs.Starts.{sheet-refused, sheet-no-core, sheet-header, sheet-few, sheet-records, sheet-starts, sheet-timely, refused-timely}
 use Rattle.dispatcher.proofs.start_sheet.Statement.{statement}
 use Rattle.dispatcher.proofs.start_sheet.Tie as tie
 use Rattle.dispatcher.proofs.start_sheet.Reads as reads
@@ -8,6 +8,7 @@ use Rattle.checker.proofs.check.Reads as check-reads
 use Rattle.dispatcher.proofs.empty.Reads as empty-reads
 use Rattle.dispatcher.proofs.of_core.Reads as of-core-reads
 use Rattle.dispatcher.proofs.refuse.Reads as refuse-reads
+use Rattle.sheet.proofs.is_grouped.Reads as is-grouped-reads
 
 check-requires : tie.Need-check-requires
 check-requires c κs = search needs
@@ -36,6 +37,9 @@ refuse-requires-2 c κs = search needs
 returns : tie.Need-returns
 returns c = (search (sheet-no-core, needs), search (refused-timely, needs))
 
+is-grouped-requires : tie.Need-is-grouped-requires
+is-grouped-requires c κs = search needs
+
 sub-of-core : tie.Need-sub-of-core
 sub-of-core c = search (sheet-header, needs)
 
@@ -49,7 +53,7 @@ cast-of-core : tie.Need-cast-of-core
 cast-of-core c = search needs
 
 of-core-requires : tie.Need-of-core-requires
-of-core-requires c κs = search (sheet-few, needs)
+of-core-requires c κs = (search (sheet-few, needs), search (sheet-records, needs))
 
 returns-2 : tie.Need-returns-2
 returns-2 c = (search (sheet-refused, needs), search (refused-timely, needs))
@@ -70,6 +74,7 @@ start-sheet-spec =
     empty-requires-2
     refuse-requires-2
     returns
+    is-grouped-requires
     sub-of-core
     part-of-core-start
     part-of-core-end

@@ -6,15 +6,15 @@ use Rattle.listing.proofs.load_of.Tie as tie
 use Rattle.listing.proofs.load_of.Reads as reads
 use Rattle.listing.proofs.load_of.Lts as lts
 use Rattle.fit.proofs.chain_of.Reads as chain-of-reads
-use Rattle.fit.proofs.in_order.Reads as in-order-reads
+use Rattle.fit.proofs.on_core.Reads as on-core-reads
 use Rattle.fit.proofs.load_of.Reads as load-of-reads
 use Rattle.listing.proofs.in_thousandths.Reads as in-thousandths-reads
 use Rattle.fit.proofs.product.Reads as product-reads
 use Rattle.sheet.proofs.divisor.Reads as divisor-reads
 use Rattle.sheet.proofs.pivot.Reads as pivot-reads
 
-in-order-requires : tie.Need-in-order-requires
-in-order-requires c κs = search needs
+on-core-requires : tie.Need-on-core-requires
+on-core-requires c κs = search needs
 
 array-share-prefix-list : tie.Need-array-share-prefix-list
 array-share-prefix-list c = search needs
@@ -62,7 +62,7 @@ pub load-of-spec : {M : Type 1} → statement M
 load-of-spec =
     tie.close
     (tie.spec
-    in-order-requires
+    on-core-requires
     array-share-prefix-list
     slice-aggregate-chain-of
     chain-of-requires

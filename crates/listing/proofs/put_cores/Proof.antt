@@ -2,8 +2,8 @@ use borrow.Author.Needs.{needs}
 use Prim.Native.Nat.{_≤_, _-_, _*_}
 use mathlib.Core.Path.{_≡_}
 use lib.ListN.{length}
-use Rattle.sheet.specs.Records.{figuresOf}
-use Rattle.fit.specs.Lists.{numbers, joined}
+use Rattle.sheet.specs.Records.{figuresWith}
+use Rattle.fit.specs.Lists.{numbers, at as column, joined}
 use Rattle.listing.specs.Listing.{coreLine}
 use Rattle.listing.specs.Steps.{Capped}
 use Rattle.listing.proofs.Lines.{lines-start, lines-turn, lines-end}
@@ -14,10 +14,10 @@ use Rattle.listing.proofs.put_cores.Lts as lts
 use Rattle.listing.proofs.put_core.Reads as put-core-reads
 
 abbrev Inv-loop : tie.InvT-loop
-Inv-loop out₀ at tasks cores n c next₀ k₀ out next k = (k ≤ c) × (length out ≡ length out₀) × Capped (76 * k) out₀ at (joined (coreLine (figuresOf n c tasks cores)) (numbers 0 k)) out next
+Inv-loop out₀ at periods tasks cores on n c next₀ k₀ out next k = (k ≤ c) × (length out ≡ length out₀) × Capped (76 * k) out₀ at (joined (coreLine (figuresWith (column on) n c tasks cores)) (numbers 0 k)) out next
 
 abbrev μ-loop : tie.MeasureT-loop
-μ-loop out₀ at tasks cores n c next₀ k₀ out next k = c - k
+μ-loop out₀ at periods tasks cores on n c next₀ k₀ out next k = c - k
 
 loop-holds : tie.Need-loop-holds Inv-loop μ-loop
 loop-holds c = search (lines-start, needs)

@@ -10,7 +10,7 @@ use Rattle.margin.proofs.tasks_above.Tie as tie
 use Rattle.margin.proofs.tasks_above.Reads as reads
 use Rattle.margin.proofs.tasks_above.Lts as lts
 use Rattle.margin.proofs.counted.Reads as counted-reads
-use Rattle.margin.proofs.is_above.Reads as is-above-reads
+use Rattle.fit.proofs.is_above.Reads as is-above-reads
 use Rattle.jobs.proofs.budget.Reads as budget-reads
 use Rattle.jobs.proofs.period.Reads as period-reads
 

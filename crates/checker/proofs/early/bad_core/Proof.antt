@@ -4,14 +4,14 @@ use Rattle.checker.proofs.early.bad_core.Statement.{statement}
 use Rattle.checker.proofs.early.bad_core.Tie as tie
 use Rattle.checker.proofs.early.bad_core.Reads as reads
 use Rattle.checker.proofs.early.bad_core.Lts as lts
-use Rattle.sheet.proofs.core.Reads as core-reads
+use Rattle.sheet.proofs.byte.Reads as byte-reads
 
-core-requires : tie.Need-core-requires
-core-requires c κs = search needs
+byte-requires : tie.Need-byte-requires
+byte-requires c κs = search needs
 
 returns : tie.Need-returns
 unfolding badCore
 returns c = cc
 
 pub bad-core-spec : {M : Type 1} → statement M
-bad-core-spec = tie.close (tie.spec core-requires returns)
+bad-core-spec = tie.close (tie.spec byte-requires returns)

@@ -14,11 +14,11 @@ first-requires c κs = search needs
 enum-known-bare : tie.Need-enum-known-bare
 enum-known-bare c = search needs
 
-cast-t11 : tie.Need-cast-t11
-cast-t11 c = search needs
+cast-t12 : tie.Need-cast-t12
+cast-t12 c = search needs
 
-add-t12 : tie.Need-add-t12
-add-t12 c = search needs
+add-t13 : tie.Need-add-t13
+add-t13 c = search needs
 
 returns : tie.Need-returns
 unfolding coreRows
@@ -33,22 +33,22 @@ first-requires-2 c κs = search needs
 enum-known-pivot : tie.Need-enum-known-pivot
 enum-known-pivot c = search needs
 
-cast-t14 : tie.Need-cast-t14
-cast-t14 c = search needs
+cast-t15 : tie.Need-cast-t15
+cast-t15 c = search needs
 
-add-t15 : tie.Need-add-t15
-add-t15 c = search needs
+add-t16 : tie.Need-add-t16
+add-t16 c = search needs
 
 returns-2 : tie.Need-returns-2
 unfolding coreRows
-returns-2 c = search (scan-skip, scan-hit, scan-none, found-at, found-none, core-at, core-none, factors-clear _ (c .before .before .before .before .before .before .before .before .before .pre), stretch-clear _ (c .before .before .before .before .before .before .before .before .before .pre)) depth 9
+returns-2 c = search (scan-skip, scan-hit, scan-none, found-at, found-none, core-at, core-none, factors-clear _ (c .before .before .before .before .before .before .before .before .before .before .pre), stretch-clear _ (c .before .before .before .before .before .before .before .before .before .before .pre)) depth 9
 
 enum-told-2 : tie.Need-enum-told-2
 enum-told-2 c = search needs
 
 returns-3 : tie.Need-returns-3
 unfolding coreRows
-returns-3 c = search (scan-skip, scan-hit, scan-none, found-at, found-none, core-at, core-none, factors-clear _ (c .before .before .before .before .before .before .before .before .pre), stretch-clear _ (c .before .before .before .before .before .before .before .before .pre)) depth 9
+returns-3 c = search (scan-skip, scan-hit, scan-none, found-at, found-none, core-at, core-none, factors-clear _ (c .before .before .before .before .before .before .before .before .before .pre), stretch-clear _ (c .before .before .before .before .before .before .before .before .before .pre)) depth 9
 
 pub bare-rules-spec : {M : Type 1} → statement M
 bare-rules-spec =
@@ -56,14 +56,14 @@ bare-rules-spec =
     (tie.spec
     first-requires
     enum-known-bare
-    cast-t11
-    add-t12
+    cast-t12
+    add-t13
     returns
     enum-told
     first-requires-2
     enum-known-pivot
-    cast-t14
-    add-t15
+    cast-t15
+    add-t16
     returns-2
     enum-told-2
     returns-3)

@@ -1,6 +1,6 @@
 use borrow.Author.Needs.{needs}
 use Prim.Native.Nat.{_≤_, _-_}
-use Rattle.sheet.specs.Records.{coreAt}
+use Rattle.fit.specs.Lists.{at}
 use Rattle.fit.specs.Priority.{isOn}
 use Rattle.fit.proofs.Finds.{Left, find-start}
 use Rattle.checker.proofs.Bare.{bare-hit, bare-turn, bare-end}
@@ -8,19 +8,22 @@ use Rattle.checker.proofs.early.is_bare.Statement.{statement}
 use Rattle.checker.proofs.early.is_bare.Tie as tie
 use Rattle.checker.proofs.early.is_bare.Reads as reads
 use Rattle.checker.proofs.early.is_bare.Lts as lts
-use Rattle.sheet.proofs.core.Reads as core-reads
+use Rattle.sheet.proofs.byte.Reads as byte-reads
 
 abbrev Inv-loop : tie.InvT-loop
-Inv-loop tasks n k i₀ i = (i ≤ n) × Left (isOn (coreAt tasks) k) n i
+Inv-loop on n k i₀ i = (i ≤ n) × Left (isOn (at on) k) n i
 
 abbrev μ-loop : tie.MeasureT-loop
-μ-loop tasks n k i₀ i = n - i
+μ-loop on n k i₀ i = n - i
 
 loop-holds : tie.Need-loop-holds Inv-loop μ-loop
 loop-holds c = search (find-start, needs)
 
-core-requires : tie.Need-core-requires Inv-loop μ-loop
-core-requires c κs = search needs
+cast-byte : tie.Need-cast-byte Inv-loop μ-loop
+cast-byte c = search needs
+
+byte-requires : tie.Need-byte-requires Inv-loop μ-loop
+byte-requires c κs = search needs
 
 returns : tie.Need-returns Inv-loop μ-loop
 returns c = search (bare-hit, needs)
@@ -44,7 +47,8 @@ is-bare-spec =
     Inv-loop
     μ-loop
     loop-holds
-    core-requires
+    cast-byte
+    byte-requires
     returns
     add-i
     loop-less

@@ -1,4 +1,5 @@
 use borrow.Author.Needs.{needs}
+use Rattle.checker.proofs.Answers.{stretch-broken}
 use Rattle.checker.proofs.early.is_broken.Statement.{statement}
 use Rattle.checker.proofs.early.is_broken.Tie as tie
 use Rattle.checker.proofs.early.is_broken.Reads as reads
@@ -72,7 +73,7 @@ returns-6 : tie.Need-returns-6
 returns-6 c = cc
 
 returns-7 : tie.Need-returns-7
-returns-7 c = cc
+returns-7 c = stretch-broken _ _ _ _ (c .is-stretched .ensures) (c .before .enum-told7 .given .1)
 
 pub is-broken-spec : {M : Type 1} → statement M
 is-broken-spec =

@@ -5,14 +5,14 @@ use Rattle.checker.proofs.early.is_stretched.Tie as tie
 use Rattle.checker.proofs.early.is_stretched.Reads as reads
 use Rattle.checker.proofs.early.is_stretched.Lts as lts
 use Rattle.fit.proofs.product.Reads as product-reads
-use Rattle.sheet.proofs.core.Reads as core-reads
+use Rattle.sheet.proofs.byte.Reads as byte-reads
 use Rattle.sheet.proofs.divisor.Reads as divisor-reads
 use Rattle.sheet.proofs.factor.Reads as factor-reads
 use Rattle.sheet.proofs.period.Reads as period-reads
 use Rattle.sheet.proofs.pivot.Reads as pivot-reads
 
-core-requires : tie.Need-core-requires
-core-requires c κs = search needs
+byte-requires : tie.Need-byte-requires
+byte-requires c κs = search needs
 
 pivot-requires : tie.Need-pivot-requires
 pivot-requires c κs = search needs
@@ -39,7 +39,7 @@ pub is-stretched-spec : {M : Type 1} → statement M
 is-stretched-spec =
     tie.close
     (tie.spec
-    core-requires
+    byte-requires
     pivot-requires
     factor-requires
     product-requires

@@ -1,6 +1,7 @@
 use borrow.Author.Needs.{needs}
 use Prim.Native.Nat.{_≤_, _<_, _-_, min}
-use Rattle.sheet.specs.Records.{periodAt, figuresOf}
+use Rattle.sheet.specs.Records.{periodAt, figuresWith}
+use Rattle.fit.specs.Lists.{at}
 use Rattle.fit.specs.Answers.{Column}
 use Rattle.sheet.proofs.Scans.{scan-skip, scan-hit, scan-none, core-at, core-none}
 use Rattle.checker.specs.Rules.{fitRows}
@@ -14,10 +15,10 @@ use Rattle.checker.proofs.fits.judge.Reads as judge-reads
 use Rattle.fit.proofs.periods_of.Reads as periods-of-reads
 
 abbrev Inv-loop : tie.InvT-loop
-Inv-loop tasks cores n c periods found₀ k₀ found k = (k ≤ c) × (found < 256) × Column (periodAt tasks) (min n 64) periods × Passed (figuresOf n c tasks cores) c k found
+Inv-loop sorted tasks cores on n c periods found₀ k₀ found k = (k ≤ c) × (found < 256) × Column (periodAt tasks) (min n 64) periods × Passed (figuresWith (at on) n c tasks cores) c k found
 
 abbrev μ-loop : tie.MeasureT-loop
-μ-loop tasks cores n c periods found₀ k₀ found k = c - k
+μ-loop sorted tasks cores on n c periods found₀ k₀ found k = c - k
 
 periods-of-requires : tie.Need-periods-of-requires Inv-loop μ-loop
 periods-of-requires c κs = search needs
@@ -29,13 +30,13 @@ slice-aggregate-judge : tie.Need-slice-aggregate-judge Inv-loop μ-loop
 slice-aggregate-judge c = search needs
 
 judge-requires : tie.Need-judge-requires Inv-loop μ-loop
-judge-requires c κs = (c .before .before .before .before .before .before .pre _ (c .before .loop-test .taken), c .before .before .before .periods-of .ensures)
+judge-requires c κs = (c .before .before .before .before .before .before .before .pre .0 _ (c .before .loop-test .taken), c .before .before .before .periods-of .ensures, c .before .before .before .before .before .before .before .pre .1)
 
 enum-known-judged : tie.Need-enum-known-judged Inv-loop μ-loop
 enum-known-judged c = search needs
 
-cast-t16 : tie.Need-cast-t16 Inv-loop μ-loop
-cast-t16 c = search needs
+cast-t18 : tie.Need-cast-t18 Inv-loop μ-loop
+cast-t18 c = search needs
 
 returns : tie.Need-returns Inv-loop μ-loop
 unfolding fitRows
@@ -60,11 +61,11 @@ returns-2 : tie.Need-returns-2 Inv-loop μ-loop
 unfolding fitRows
 returns-2 c = search (scan-skip, scan-none, fit-end, fit-clear, core-none)
 
-cast-t19 : tie.Need-cast-t19 Inv-loop μ-loop
-cast-t19 c = search needs
+cast-t21 : tie.Need-cast-t21 Inv-loop μ-loop
+cast-t21 c = search needs
 
-add-t20 : tie.Need-add-t20 Inv-loop μ-loop
-add-t20 c = search needs
+add-t22 : tie.Need-add-t22 Inv-loop μ-loop
+add-t22 c = search needs
 
 returns-3 : tie.Need-returns-3 Inv-loop μ-loop
 unfolding fitRows
@@ -81,7 +82,7 @@ fit-rules-spec =
     slice-aggregate-judge
     judge-requires
     enum-known-judged
-    cast-t16
+    cast-t18
     returns
     enum-known-judged-2
     first-over-requires
@@ -89,6 +90,6 @@ fit-rules-spec =
     loop-less
     loop-again
     returns-2
-    cast-t19
-    add-t20
+    cast-t21
+    add-t22
     returns-3)

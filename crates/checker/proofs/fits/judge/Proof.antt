@@ -1,16 +1,16 @@
 use borrow.Author.Needs.{needs}
 use Rattle.fit.proofs.Sorting.{ordered-length}
-use Rattle.checker.proofs.Judging.{judge-broken, judge-whole}
+use Rattle.checker.proofs.Judging.{column-sorted, judge-broken, judge-whole}
 use Rattle.checker.proofs.fits.judge.Statement.{statement}
 use Rattle.checker.proofs.fits.judge.Tie as tie
 use Rattle.checker.proofs.fits.judge.Reads as reads
 use Rattle.checker.proofs.fits.judge.Lts as lts
 use Rattle.checker.proofs.fits.is_over.Reads as is-over-reads
+use Rattle.checker.proofs.fits.order_of.Reads as order-of-reads
 use Rattle.fit.proofs.chain_of.Reads as chain-of-reads
-use Rattle.fit.proofs.on_core.Reads as on-core-reads
 
-on-core-requires : tie.Need-on-core-requires
-on-core-requires c κs = search needs
+order-of-requires : tie.Need-order-of-requires
+order-of-requires c κs = column-sorted _ _ _ (c .before .before .before .before .pre .1) (c .before .before .before .before .pre .2)
 
 array-share-prefix-list : tie.Need-array-share-prefix-list
 array-share-prefix-list c = search needs
@@ -46,7 +46,7 @@ pub judge-spec : {M : Type 1} → statement M
 judge-spec =
     tie.close
     (tie.spec
-    on-core-requires
+    order-of-requires
     array-share-prefix-list
     slice-aggregate-chain-of
     chain-of-requires

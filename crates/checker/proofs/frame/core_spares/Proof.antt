@@ -10,10 +10,10 @@ use Rattle.checker.proofs.frame.core_spares.Lts as lts
 use Rattle.sheet.proofs.byte.Reads as byte-reads
 
 abbrev Inv-loop : tie.InvT-loop
-Inv-loop records n c at₀ k₀ at k = (k ≤ c) × (at ≡ 10 * n + 8 * k) × To records (coreSpares (10 * n) c) (coreSpares at (c - k))
+Inv-loop records n c grouped at₀ k₀ at k = (k ≤ c) × (at ≡ 10 * n + 8 * k) × To records (coreSpares grouped (10 * n) c) (coreSpares grouped at (c - k))
 
 abbrev μ-loop : tie.MeasureT-loop
-μ-loop records n c at₀ k₀ at k = c - k
+μ-loop records n c grouped at₀ k₀ at k = c - k
 
 mul-at : tie.Need-mul-at Inv-loop μ-loop
 mul-at c = search needs
@@ -27,14 +27,14 @@ add-byte c = search needs
 byte-requires : tie.Need-byte-requires Inv-loop μ-loop
 byte-requires c κs = search needs
 
-add-t11 : tie.Need-add-t11 Inv-loop μ-loop
-add-t11 c = search needs
+add-t14 : tie.Need-add-t14 Inv-loop μ-loop
+add-t14 c = search needs
 
-cast-t12 : tie.Need-cast-t12 Inv-loop μ-loop
-cast-t12 c = search needs
+cast-t15 : tie.Need-cast-t15 Inv-loop μ-loop
+cast-t15 c = search needs
 
-add-t13 : tie.Need-add-t13 Inv-loop μ-loop
-add-t13 c = search needs
+add-t16 : tie.Need-add-t16 Inv-loop μ-loop
+add-t16 c = search needs
 
 returns : tie.Need-returns Inv-loop μ-loop
 returns c = search (core-hit, needs)
@@ -45,17 +45,17 @@ add-byte-2 c = search needs
 byte-requires-2 : tie.Need-byte-requires-2 Inv-loop μ-loop
 byte-requires-2 c κs = search needs
 
-add-t15 : tie.Need-add-t15 Inv-loop μ-loop
-add-t15 c = search needs
+add-t18 : tie.Need-add-t18 Inv-loop μ-loop
+add-t18 c = search needs
 
-cast-t16 : tie.Need-cast-t16 Inv-loop μ-loop
-cast-t16 c = search needs
+cast-t19 : tie.Need-cast-t19 Inv-loop μ-loop
+cast-t19 c = search needs
 
-add-t17 : tie.Need-add-t17 Inv-loop μ-loop
-add-t17 c = search needs
+add-t20 : tie.Need-add-t20 Inv-loop μ-loop
+add-t20 c = search needs
 
 returns-2 : tie.Need-returns-2 Inv-loop μ-loop
-returns-2 c = core-hit-2 _ _ _ _ _ _ (c .before .before .before .before .loop-test .taken) (c .before .before .before .before .before .loop .inv .2) (c .before .before .before .byte .ensures) _ (c .before .before .if1 .left) (c .before .byte2 .ensures) (c .if2 .taken)
+returns-2 c = core-hit-2 _ _ _ _ _ _ _ (c .before .before .before .before .loop-test .taken) (c .before .before .before .before .before .loop .inv .2) (c .before .before .before .byte .ensures) (c .before .before .if1 .left) _ (c .before .byte2 .ensures) (c .if2 .taken)
 
 add-at : tie.Need-add-at Inv-loop μ-loop
 add-at c = search needs
@@ -67,7 +67,7 @@ loop-less : tie.Need-loop-less Inv-loop μ-loop
 loop-less c = search needs
 
 loop-again : tie.Need-loop-again Inv-loop μ-loop
-loop-again c = (search needs, search needs, core-turn _ _ _ _ _ _ (c .before .before .before .before .loop-test .taken) (c .before .before .before .before .before .loop .inv .2) (c .before .before .before .byte .ensures) _ (c .before .before .if1 .left) (c .before .byte2 .ensures) (c .if2 .left))
+loop-again c = (search needs, search needs, core-turn _ _ _ _ _ _ _ (c .before .before .before .before .loop-test .taken) (c .before .before .before .before .before .loop .inv .2) (c .before .before .before .byte .ensures) (c .before .before .if1 .left) _ (c .before .byte2 .ensures) (c .if2 .left))
 
 returns-3 : tie.Need-returns-3 Inv-loop μ-loop
 returns-3 c = search (core-end, needs)
@@ -82,15 +82,15 @@ core-spares-spec =
     loop-holds
     add-byte
     byte-requires
-    add-t11
-    cast-t12
-    add-t13
+    add-t14
+    cast-t15
+    add-t16
     returns
     add-byte-2
     byte-requires-2
-    add-t15
-    cast-t16
-    add-t17
+    add-t18
+    cast-t19
+    add-t20
     returns-2
     add-at
     add-k

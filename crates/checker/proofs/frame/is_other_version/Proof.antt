@@ -1,4 +1,5 @@
 use borrow.Author.Needs.{needs}
+use Rattle.checker.specs.Tests.{badVersion}
 use Rattle.checker.proofs.frame.is_other_version.Statement.{statement}
 use Rattle.checker.proofs.frame.is_other_version.Tie as tie
 use Rattle.checker.proofs.frame.is_other_version.Reads as reads
@@ -9,6 +10,7 @@ read-word-requires : tie.Need-read-word-requires
 read-word-requires c κs = search needs
 
 returns : tie.Need-returns
+unfolding badVersion
 returns c = cc
 
 pub is-other-version-spec : {M : Type 1} → statement M

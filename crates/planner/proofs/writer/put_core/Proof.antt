@@ -1,8 +1,8 @@
 use borrow.Author.Needs.{needs}
 use native.Mathlib.Omega.{arith}
 use lib.ListN.{length-set}
+use Rattle.fit.proofs.Laying.{stores}
 use Rattle.planner.specs.Sheet.{two, four, coreRecord}
-use Rattle.planner.proofs.Writing.{stores}
 use Rattle.planner.proofs.writer.put_core.Statement.{statement}
 use Rattle.planner.proofs.writer.put_core.Tie as tie
 use Rattle.planner.proofs.writer.put_core.Reads as reads

@@ -1,7 +1,8 @@
 use borrow.Author.Needs.{needs}
 use Prim.Native.Nat.{_≤_, _-_}
+use Rattle.fit.proofs.Laying.{Laid, lay-start, lay-end}
 use Rattle.planner.specs.Steps.{coreBytes}
-use Rattle.planner.proofs.Writing.{Laid, lay-start, lay-end, core-turn}
+use Rattle.planner.proofs.Writing.{core-turn}
 use Rattle.planner.proofs.writer.put_cores.Statement.{statement}
 use Rattle.planner.proofs.writer.put_cores.Tie as tie
 use Rattle.planner.proofs.writer.put_cores.Reads as reads

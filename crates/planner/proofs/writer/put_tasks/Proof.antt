@@ -1,7 +1,8 @@
 use borrow.Author.Needs.{needs}
 use Prim.Native.Nat.{_≤_, _-_}
+use Rattle.fit.proofs.Laying.{Laid, lay-start, lay-end}
 use Rattle.planner.specs.Steps.{taskBytes}
-use Rattle.planner.proofs.Writing.{Laid, lay-start, lay-end, task-turn}
+use Rattle.planner.proofs.Writing.{task-turn}
 use Rattle.planner.proofs.writer.put_tasks.Statement.{statement}
 use Rattle.planner.proofs.writer.put_tasks.Tie as tie
 use Rattle.planner.proofs.writer.put_tasks.Reads as reads

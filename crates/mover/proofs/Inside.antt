@@ -1,0 +1,43 @@
+-- A sheet that is written lies within its buffer, and the bytes of an input past 713 do not matter.
+-- Assumes nothing.
+use Prim.Native.Nat.{ℕ, _≤_}
+use mathlib.Core.Path.{_≡_, sym, ap, _∙_}
+use mathlib.Core.Bool.{Bool, true, false, cond}
+use mathlib.Core.List.{List, _++_}
+use native.Mathlib.Omega.{arith}
+use lib.ListN.{length, take, drop, length-append}
+use lib.Seq.{length-take-le}
+use lib.Dec.{ltb}
+use Rattle.fit.specs.Lists.{over}
+use Rattle.checker.specs.Verdict as check
+use Rattle.checker.proofs.Long.{verdict-cut}
+use Rattle.mover.specs.declared.Moved.{Moved}
+use Rattle.mover.specs.declared.Moved.the-variants.{Written}
+use Rattle.mover.specs.Moved.{moved}
+use Rattle.mover.specs.Answers.{written, refused, moveAnswer, moveOutput, answerOf}
+
+-- a written sheet, and that front of the buffer is as long
+module _ (s out new : List ℕ) (r : Moved) (x : ℕ) (q : r ≡ Written x) (e : answerOf r ≡ moveAnswer (check.verdict s) s (length out)) (b : new ≡ moveOutput (check.verdict s) s out) where
+  pub moved-inside : x ≤ length new
+  unfolding moveAnswer moveOutput over
+  moved-inside = by (check.verdict s) (ap answerOf (sym q) ∙ e) b
+    where
+      room : (t : Bool) → written x ≡ cond t (refused 16 0) (written (length (moved s))) → new ≡ cond t out (moved s ++ drop (length (moved s)) out) → x ≤ length new
+      room true e b = absurd (let z : _≡_ {A = ℕ} 0 1 = cc in omega arith)
+      room false e b =
+          let w : x ≡ length (moved s) = cc in
+          omega (arith, simp length-append at (ap length b))
+
+      by : (o : check.Outcome) → written x ≡ moveAnswer o s (length out) → new ≡ moveOutput o s out → x ≤ length new
+      by (check.refused k p) e b = absurd (let z : _≡_ {A = ℕ} 0 1 = cc in omega arith)
+      by (check.accepted n c) e b = room (ltb (length out) 712) e b
+
+  pub moved-front : x ≡ length (take x new)
+  moved-front = sym (length-take-le x new moved-inside)
+
+-- A longer input has the answer of its first 713 bytes, which is a refusal.
+pub moving-cut : (s : List ℕ) (room : ℕ) → 713 ≤ length s → moveAnswer (check.verdict (take 713 s)) (take 713 s) room ≡ moveAnswer (check.verdict s) s room
+unfolding moveAnswer
+moving-cut s room h =
+    let (k, cut, all) = verdict-cut s h in
+    rw (cut, all)

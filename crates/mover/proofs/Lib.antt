@@ -1,0 +1,12 @@
+pub mod Records
+pub mod Writing
+pub mod Gathering
+pub mod Planning
+pub mod Fields
+pub mod Agreeing
+pub mod Accepting
+pub mod Laid
+pub mod Trips
+pub mod Moving
+pub mod Answering
+pub mod Inside

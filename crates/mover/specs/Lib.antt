@@ -1,0 +1,4 @@
+pub mod Moved
+pub mod Answers
+pub mod Meaning
+pub mod Steps

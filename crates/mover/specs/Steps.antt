@@ -1,0 +1,42 @@
+-- What the code's own steps ask and give; no public contract speaks of it.
+use Prim.Native.Nat.{ℕ, _+_, _*_, _≤_, _<_}
+use mathlib.Core.Path.{_≡_}
+use mathlib.Core.List.{List}
+use lib.ListN.{length, getD}
+use Rattle.sheet.specs.Records.{taskCount, coreCount}
+use Rattle.fit.specs.Lists.{numbers, at, joined}
+use Rattle.fit.specs.Priority.{order}
+use Rattle.mover.specs.declared.Plan.{Plan}
+use Rattle.mover.specs.Moved.{taskWith, coreWith, Layout}
+
+-- the task record of new position i, and the record of core k, by what stands in arrays
+unfoldable pub taskBytes : (tasks from fourth : List ℕ) → ℕ → List ℕ
+taskBytes tasks from fourth i = taskWith tasks (getD from i 0) (getD fourth i 0)
+
+unfoldable pub coreBytes : (cores counts : List ℕ) → ℕ → List ℕ
+coreBytes cores counts k = coreWith cores k (getD counts k 0)
+
+-- the counts of a sheet are n and c, and it is as long as they give
+pub record Sized (s : List ℕ) (n c : ℕ) : Type 0 where
+  pub tasks : n ≡ taskCount s
+  pub cores : c ≡ coreCount s
+  pub few-tasks : n ≤ 64
+  pub few-cores : c ≤ 8
+  pub size : length s ≡ 8 + 10 * n + 8 * c
+
+-- what stands in a list at the i-th of some places
+unfoldable pub found : (list places : List ℕ) → ℕ → ℕ
+found list places i = getD list (getD places i 0) 0
+
+-- the layout of version 2 for n tasks with periods p on c cores
+abbrev pub groupedBy : (p core : ℕ → ℕ) → ℕ → ℕ → Layout
+groupedBy p core n c =
+    let from : ℕ → ℕ = at (joined (λ k. order p core k n) (numbers 0 c)) in
+    record { version = 2; from = from; fourth = from; count = λ k. length (order p core k n) }
+
+-- a layout of n tasks and c cores, in arrays
+pub record Planned (y : Layout) (n c : ℕ) (a : Plan) : Type 0 where
+  pub version : a .version ≡ y .version
+  pub from : (i : ℕ) → i < n → getD (a .from) i 0 ≡ y .from i
+  pub fourth : (i : ℕ) → i < n → getD (a .fourth) i 0 ≡ y .fourth i
+  pub count : (k : ℕ) → k < c → getD (a .counts) k 0 ≡ y .count k

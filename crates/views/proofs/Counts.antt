@@ -1,0 +1,66 @@
+-- The core of a position by the task counts: it is the core whose part of the positions holds it.
+-- Assumes nothing.
+use Prim.Native.Nat.{ℕ, zero, suc, _+_, _≤_, _<_}
+use mathlib.Core.Path.{_≡_, refl}
+use mathlib.Core.Bool.{Bool, true, false, cond}
+use native.Mathlib.Nat.{le-refl, le-trans, lt-of-lt-of-le}
+use native.Mathlib.Omega.{arith}
+use native.Mathlib.Decide.{ℕ-discrete}
+use borrow.Author.Tests.{le-leb, lt-leb, leb-true, leb-false}
+use lib.Arith.{lt-of-le-ne}
+use lib.Dec.{leb}
+use Rattle.sheet.specs.Views.{firstOf, coreByCounts}
+
+module _ (count : ℕ → ℕ) where
+  pub first-next : (k : ℕ) → firstOf count (suc k) ≡ firstOf count k + count k
+  unfolding firstOf
+  first-next k = refl
+
+  -- no core begins before a lower one
+  pub first-rises : (k m : ℕ) → k ≤ m → firstOf count k ≤ firstOf count m
+  first-rises k zero h = let z : k ≡ 0 = omega arith in rw z (le-refl _)
+  first-rises k (suc m) h = by (ℕ-discrete k (suc m)) (first-rises k m)
+    where
+      by : Dec (k ≡ suc m) → (k ≤ m → firstOf count k ≤ firstOf count m) → firstOf count k ≤ firstOf count (suc m)
+      by (yes z) rec = rw z (le-refl _)
+      by (no z) rec =
+          let l : k < suc m = lt-of-le-ne h z in
+          omega (arith, rec (omega arith), first-next m)
+
+  -- Past them all the core is c.
+  pub core-past : (c j : ℕ) → firstOf count c ≤ j → coreByCounts count c j ≡ c
+  unfolding coreByCounts
+  core-past zero j h = refl
+  core-past (suc c) j h = rw (le-leb (firstOf count (suc c)) j h)
+
+  -- From where core k begins to where the next one does the core is k.
+  pub core-inside : (c k j : ℕ) → firstOf count k ≤ j → j < firstOf count (suc k) → k < c → coreByCounts count c j ≡ k
+  unfolding coreByCounts
+  core-inside zero k j a b h = absurd (omega arith)
+  core-inside (suc c) k j a b h = rw (lt-leb (firstOf count (suc c)) j (lt-of-lt-of-le b (first-rises (suc k) (suc c) h))) (by (ℕ-discrete k c) (core-inside c k j a b))
+    where
+      by : Dec (k ≡ c) → (k < c → coreByCounts count c j ≡ k) → coreByCounts count c j ≡ k
+      by (yes z) rec = rw z (core-past c j (rw (← z) a))
+      by (no z) rec = rec (lt-of-le-ne (omega arith) z)
+
+  -- a position before the end lies on a core
+  pub core-where : (c j : ℕ) → j < firstOf count c → (coreByCounts count c j < c) × (firstOf count (coreByCounts count c j) ≤ j) × (j < firstOf count (suc (coreByCounts count c j)))
+  unfolding firstOf coreByCounts
+  core-where zero j h = absurd (omega arith)
+  core-where (suc c) j h =
+      rw (lt-leb (firstOf count (suc c)) j h) (by (core-where c j) (leb (firstOf count c) j) refl)
+    where
+      by : (j < firstOf count c → (coreByCounts count c j < c) × (firstOf count (coreByCounts count c j) ≤ j) × (j < firstOf count (coreByCounts count c j) + count (coreByCounts count c j))) → (b : Bool) → leb (firstOf count c) j ≡ b → (coreByCounts count c j < suc c) × (firstOf count (coreByCounts count c j) ≤ j) × (j < firstOf count (coreByCounts count c j) + count (coreByCounts count c j))
+      by next true e =
+          let z : firstOf count c ≤ j = leb-true _ _ e in
+          rw (core-past c j z) (omega arith, z, h)
+      by next false e =
+          let w = next (leb-false _ _ e) in
+          (omega (arith, w .0), w .1, w .2)
+
+  -- positions between two of one core are on it
+  pub core-between : (c i x j : ℕ) → i ≤ x → x ≤ j → j < firstOf count c → coreByCounts count c i ≡ coreByCounts count c j → coreByCounts count c x ≡ coreByCounts count c i
+  core-between c i x j a b h e =
+      let low = core-where c i (omega arith) in
+      let high = core-where c j h in
+      core-inside c (coreByCounts count c i) x (omega (arith, low .1)) (rw e (omega (arith, high .2))) (low .0)

@@ -1,0 +1,11 @@
+pub mod Counts
+pub mod Once
+pub mod Filling
+pub mod Numbering
+pub mod Selecting
+pub mod Ordering
+pub mod Grouped
+pub mod ByNumber
+pub mod Grouping
+pub mod Positions
+pub mod Renamed
