@@ -1,13 +1,13 @@
 -- The verdict is "accepted" exactly when the sheet is acceptable; and what follows for each core.
 -- Assumes nothing.
-use Prim.Native.Nat.{ℕ, _+_, _*_, _≤_, _<_, zero-le}
+use Prim.Native.Nat.{ℕ, _+_, _*_, _<_, zero-le}
 use mathlib.Core.Path.{_≡_, refl, sym, _∙_}
 use mathlib.Core.Logic.{_↔_, _⊎_, inl, inr}
 use mathlib.Core.Bool.{Bool, true, false, _||_, true≢false}
 use mathlib.Core.Option.{Option, none, some, Option·some-ne-none}
 use mathlib.Core.List.{List, [], _∷_, _++_}
 use native.Mathlib.Omega.{arith}
-use native.Mathlib.Nat.{zero-add, le-trans}
+use native.Mathlib.Nat.{zero-add}
 use borrow.Author.Tests.{ltb-false, le-ltb, leb-false, lt-leb, eqb-true, eqb-false, eq-eqb, not-false}
 use lib.ListN.{length, getD, drop}
 use lib.Dec.{ltb, eqb}
@@ -22,10 +22,8 @@ use Rattle.fit.specs.Priority.{order, isOn}
 use Rattle.fit.specs.Fits.{stretched, overloaded}
 use Rattle.fit.proofs.Finds.{find-none, none-find, find-some, findSome-none, none-findSome}
 use Rattle.fit.proofs.Firsts.{none-exactly}
-use Rattle.fit.proofs.Lists.{each-of, each-both}
-use Rattle.fit.proofs.Priority.{order-members, order-count, order-rising}
-use Rattle.fit.proofs.Levels.{chain-multiples, multiples-chain, multiples-pairs, level-load, budget-within, within-period}
-use Rattle.fit.specs.Cores.{orderOn}
+use Rattle.fit.proofs.Lists.{each-of}
+use Rattle.fit.proofs.Levels.{chain-multiples, multiples-chain}
 use Rattle.views.proofs.Grouped.{in-order, order-in}
 use Rattle.checker.specs.Tests.{isMarked, badVersion, isSet, badOrder, badCore, isNone, bare, badFactor, badPivot, stretchedAt, chainBreakOn, overloadedOn}
 use Rattle.checker.specs.Rules.{offset, frameRows, spareRows, taskRows, coreRows, fitRows, recordRows, partRows, rules}

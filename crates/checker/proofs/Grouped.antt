@@ -1,6 +1,6 @@
 -- Rule 9 cannot be broken first in a version 2 sheet: where the task counts add up, every position lies on a core.
 -- Assumes nothing.
-use Prim.Native.Nat.{ℕ, _*_, _<_}
+use Prim.Native.Nat.{ℕ, _*_}
 use mathlib.Core.Path.{_≡_, refl, sym, ap, subst, _∙_}
 use mathlib.Core.Bool.{Bool, true, false}
 use mathlib.Core.Option.{Option, none, some, Option·map, Option·some-ne-none}
@@ -9,11 +9,10 @@ use native.Mathlib.Omega.{arith}
 use borrow.Author.Tests.{lt-leb}
 use lib.ListN.{drop}
 use Rattle.sheet.specs.Table.{Row, Refused, _at_, scan, whole, FirstBroken, hasRule}
-use Rattle.sheet.specs.Records.{Figures, numberAt, countAt, taskCount, coreCount}
+use Rattle.sheet.specs.Records.{Figures, countAt, taskCount, coreCount}
 use Rattle.sheet.specs.Views.{isGrouped, positionedIn, byPosition}
 use Rattle.sheet.proofs.Exactly.{scan-exactly, part-exactly}
 use Rattle.fit.specs.Lists.{numbers, find}
-use Rattle.views.specs.Order.{InOrder}
 use Rattle.views.proofs.Counts.{core-where}
 use Rattle.checker.specs.Tests.{badCore, badOrder}
 use Rattle.checker.specs.Rules.{frameRows, spareRows, taskRows, coreRows, fitRows, recordRows, partRows, rules}

@@ -1,26 +1,24 @@
 -- The checker accepts the sheet of the other version of an accepted one; and a version 2 sheet is accepted exactly when it is in order and
 -- its version 1 sheet is accepted.
 -- Assumes nothing.
-use Prim.Native.Nat.{ℕ, _+_, _*_, _≤_, _<_}
+use Prim.Native.Nat.{ℕ, _+_, _*_, _<_}
 use mathlib.Core.Path.{_≡_, refl, sym, ap, subst, _∙_}
 use mathlib.Core.Logic.{_↔_, _⊎_, inl, inr}
-use mathlib.Core.Bool.{Bool, true, false, not, cond, true≢false}
+use mathlib.Core.Bool.{true, false, true≢false}
 use mathlib.Core.List.{List}
 use native.Mathlib.Omega.{arith}
-use lib.ListN.{length, getD, drop}
+use lib.ListN.{getD, drop}
 use lib.Seq.{getD-drop}
-use Rattle.sheet.specs.Records.{Figures, numberAt, taskCount, coreCount}
+use Rattle.sheet.specs.Records.{numberAt, taskCount, coreCount}
 use Rattle.sheet.specs.Views.{version, isGrouped, positionOf, positionOfNumber, byPosition, figures}
 use Rattle.fit.specs.Lists.{at}
-use Rattle.views.specs.Order.{EachOnce, InOrder}
-use Rattle.views.specs.Renamed.{Agree}
+use Rattle.views.specs.Order.{EachOnce}
 use Rattle.views.proofs.ByNumber.{position-below, position-number}
-use Rattle.views.proofs.Grouping.{spot-member}
 use Rattle.checker.specs.Verdict.{accepted, verdict}
 use Rattle.checker.specs.Accepted.{Framed, SparesZero, Fitting, OrderKept, Acceptable}
 use Rattle.checker.proofs.Acceptance.{accepted-exactly}
 use Rattle.checker.proofs.Views.{agree-fits, views-fit}
-use Rattle.mover.specs.Moved.{Layout, laidOut, layout1, layout2, version1, version2, moved}
+use Rattle.mover.specs.Moved.{Layout, laidOut, layout1, layout2, version1, version2}
 use Rattle.mover.proofs.Fields.{laid-mark, laid-version, laid-tasks, laid-cores, laid-spare, laid-length, laid-task-spare, laid-count, laid-core-spare}
 use Rattle.mover.proofs.Agreeing.{version1-single, version1-agree, single-figures, version2-order, version2-agree, grouping-below}
 

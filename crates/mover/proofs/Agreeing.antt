@@ -1,13 +1,12 @@
 -- A sheet and the sheet of the other version have the same figures by task number.
 -- Assumes nothing.
-use Prim.Native.Nat.{ℕ, zero, suc, _+_, _*_, _≤_, _<_}
+use Prim.Native.Nat.{ℕ, zero, suc, _*_, _≤_, _<_}
 use mathlib.Core.Path.{_≡_, refl, sym, ap, ap₂, subst, subst₂, _∙_}
-use mathlib.Core.Bool.{Bool, true, false, cond}
+use mathlib.Core.Bool.{Bool, true, false}
 use mathlib.Core.List.{List}
 use native.Mathlib.Omega.{arith}
 use lib.ListN.{length, drop}
-use lib.Dec.{leb}
-use Rattle.sheet.specs.Records.{Figures, periodAt, coreAt, numberAt, countAt, taskCount, coreCount}
+use Rattle.sheet.specs.Records.{Figures, numberAt, countAt, taskCount, coreCount}
 use Rattle.sheet.specs.Views.{isGrouped, firstOf, coreByCounts, positionOf, positionOfNumber, positionedIn, renumbered, byPosition, figures}
 use Rattle.fit.specs.Lists.{numbers, at, joined}
 use Rattle.fit.specs.Priority.{Higher, order}

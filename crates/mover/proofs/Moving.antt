@@ -5,7 +5,7 @@ use mathlib.Core.Path.{_≡_, refl, sym, ap, subst, _∙_}
 use mathlib.Core.Bool.{Bool, true, false, not}
 use mathlib.Core.List.{List}
 use native.Mathlib.Omega.{arith}
-use lib.ListN.{length, take, drop}
+use lib.ListN.{length, drop}
 use lib.Seq.{take-at}
 use Rattle.sheet.specs.declared.Refusal.{Refusal}
 use Rattle.sheet.specs.Records.{taskCount, coreCount}
@@ -17,7 +17,6 @@ use Rattle.checker.specs.Accepted.{Acceptable}
 use Rattle.checker.proofs.Acceptance.{accepted-exactly}
 use Rattle.mover.specs.declared.Moved.the-variants.{Written, Refused}
 use Rattle.mover.specs.Moved.{version1, version2, moved}
-use Rattle.mover.specs.Answers.{written}
 use Rattle.mover.specs.Meaning.{Moves, Moving}
 use Rattle.mover.proofs.Agreeing.{version1-single, version2-grouped, version2-agree}
 use Rattle.mover.proofs.Accepting.{to-version1, to-version2, version1-counts}

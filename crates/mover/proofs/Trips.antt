@@ -1,7 +1,7 @@
 -- Moving a sheet twice gives the same bytes, from either version.
 -- Assumes nothing.
-use Prim.Native.Nat.{ℕ, zero, suc, _+_, _*_, _≤_, _<_}
-use mathlib.Core.Path.{_≡_, refl, sym, ap, ap₂, subst, _∙_}
+use Prim.Native.Nat.{ℕ, zero, suc, _+_, _*_, _<_}
+use mathlib.Core.Path.{_≡_, refl, sym, ap, subst, _∙_}
 use mathlib.Core.Logic.{_⊎_, inl, inr}
 use mathlib.Core.Bool.{Bool, true, false, true≢false}
 use mathlib.Core.List.{List, [], _∷_, _++_, map}
@@ -20,7 +20,7 @@ use Rattle.views.proofs.Renamed.{agree-order}
 use Rattle.views.proofs.Positions.{core-positions, joined-positions}
 use Rattle.checker.specs.Accepted.{OrderKept, Acceptable}
 use Rattle.checker.proofs.Views.{views-renamed}
-use Rattle.mover.specs.Moved.{Layout, laidOut, grouping, layout1, layout2, version1, version2}
+use Rattle.mover.specs.Moved.{laidOut, grouping, layout1, layout2, version1, version2}
 use Rattle.mover.proofs.Fields.{laid-tasks, laid-cores}
 use Rattle.mover.proofs.Agreeing.{version1-single, version1-agree, single-figures, version2-grouped, version2-order, version2-agree, version2-position, grouping-below}
 use Rattle.mover.proofs.Accepting.{core-part, inside, own, to-version1, version1-counts}

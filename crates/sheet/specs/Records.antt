@@ -1,7 +1,7 @@
 -- The header, the task records and the core records, decoded (docs/SHEET.md, section 2).
 use Prim.Native.Nat.{ℕ, _+_, _*_}
 use mathlib.Core.List.{List}
-use lib.ListN.{getD, drop}
+use lib.ListN.{getD}
 use Rattle.sheet.specs.Numbers.{word, long}
 
 -- The fields of task i in the part that starts at byte 8. A record has 10 bytes: period (2), budget (2), core (1), spare (1), factor (4).

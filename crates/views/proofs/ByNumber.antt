@@ -1,18 +1,18 @@
 -- Where each old number stands once, a task's position and its number name each other, and the order of a core by number is that by
 -- position.
 -- Assumes nothing.
-use Prim.Native.Nat.{ℕ, zero, suc, _+_, _≤_, _<_}
+use Prim.Native.Nat.{ℕ, zero, suc, _≤_, _<_}
 use mathlib.Core.Path.{_≡_, sym, ap, subst₂, _∙_}
-use mathlib.Core.Logic.{_⊎_, inl, inr}
-use mathlib.Core.Bool.{Bool, true, false, cond}
-use mathlib.Core.List.{List, map}
+use mathlib.Core.Logic.{inl, inr}
+use mathlib.Core.Bool.{cond}
+use mathlib.Core.List.{map}
 use native.Mathlib.Omega.{arith}
 use native.Mathlib.Decide.{ℕ-discrete}
 use borrow.Author.Tests.{eq-eqb, ne-eqb}
 use lib.Dec.{eqb}
 use Rattle.sheet.specs.Records.{Figures}
 use Rattle.sheet.specs.Views.{positionOf, renumbered}
-use Rattle.fit.specs.Lists.{occurs, Each, EachPair}
+use Rattle.fit.specs.Lists.{occurs, Each}
 use Rattle.fit.specs.Priority.{Above, Higher, order}
 use Rattle.fit.specs.Cores.{orderOn}
 use Rattle.fit.proofs.Lists.{each-of, pairs-of}

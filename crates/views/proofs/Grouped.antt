@@ -1,17 +1,17 @@
 -- Version 2's order, as a test and as a proposition, and what follows for its positions.
 -- Assumes nothing.
-use Prim.Native.Nat.{ℕ, zero, suc, _+_, _-_, _≤_, _<_}
+use Prim.Native.Nat.{ℕ, zero, suc, _+_, _-_, _<_}
 use mathlib.Core.Path.{_≡_, refl, sym, ap, subst, _∙_}
-use mathlib.Core.Logic.{_⊎_, inl, inr, _↔_}
-use mathlib.Core.Bool.{Bool, true, false, not, _&&_, _||_, true≢false}
+use mathlib.Core.Logic.{inl, inr}
+use mathlib.Core.Bool.{Bool, true, false, not, _&&_, _||_}
 use native.Mathlib.Omega.{arith}
-use borrow.Author.Tests.{eq-eqb, ne-eqb, eqb-true, ltb-true, lt-ltb, not-false, not-true}
+use borrow.Author.Tests.{eq-eqb, eqb-true, ltb-true, lt-ltb, not-false}
 use lib.Dec.{ltb, eqb}
 use Rattle.sheet.specs.Views.{firstOf, coreByCounts}
 use Rattle.sheet.proofs.Ranges.{neither, both}
 use Rattle.fit.specs.Priority.{higher, Higher, Above}
 use Rattle.fit.proofs.Some.{some-none, none-some}
-use Rattle.views.specs.Order.{badNumbers, badCounts, fallsAt, badSequence, misordered, EachOnce, InOrder}
+use Rattle.views.specs.Order.{badNumbers, badCounts, fallsAt, badSequence, misordered, InOrder}
 use Rattle.views.proofs.Counts.{core-between}
 use Rattle.views.proofs.Once.{each-once, once-numbers}
 

@@ -2,10 +2,8 @@
 -- Assumes nothing.
 use Prim.Native.Nat.{ℕ, zero, suc, _+_, _-_, _≤_, _<_}
 use mathlib.Core.Path.{_≡_, refl, sym, ap, subst₂, fun-ext, _∙_}
-use mathlib.Core.Logic.{_⊎_, inl, inr}
 use mathlib.Core.Bool.{Bool, true, false, cond}
 use mathlib.Core.List.{List, [], _∷_, _++_, map}
-use native.Mathlib.Nat.{le-trans}
 use native.Mathlib.Numerals.{add-one}
 use native.Mathlib.Omega.{arith}
 use native.Mathlib.Decide.{ℕ-discrete}
@@ -14,14 +12,14 @@ use lib.ListN.{length, getD, length-append, List·getD-append, length-map}
 use lib.Seq.{getD-append-add}
 use lib.Dec.{ltb, eqb}
 use Rattle.sheet.specs.Views.{firstOf, coreByCounts}
-use Rattle.fit.specs.Lists.{numbers, at, joined, select, sum, occurs, Each, EachPair}
-use Rattle.fit.specs.Priority.{isOn, Above, Higher, order, tasksOn}
-use Rattle.fit.proofs.Lists.{each-of, each-at, each-number, joined-next, numbers-length, select-length, select-all, sum-numbers}
+use Rattle.fit.specs.Lists.{numbers, at, joined, select, sum, occurs}
+use Rattle.fit.specs.Priority.{isOn, Above, order, tasksOn}
+use Rattle.fit.proofs.Lists.{each-at, each-number, joined-next, numbers-length, select-length, select-all, sum-numbers}
 use Rattle.fit.proofs.Priority.{order-members, order-holds, order-length, order-rising}
 use Rattle.fit.proofs.Counting.{sum-occurs}
 use Rattle.fit.proofs.Rising.{each-map, pairs-at, member-at, above-once}
 use Rattle.views.specs.Order.{EachOnce, InOrder}
-use Rattle.views.proofs.Counts.{first-next, first-rises, core-inside, core-where}
+use Rattle.views.proofs.Counts.{first-next, first-rises, core-where}
 
 -- lists one after the other: how long they are, and what stands where
 module _ (f : ℕ → List ℕ) where

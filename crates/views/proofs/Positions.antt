@@ -2,12 +2,12 @@
 -- Assumes nothing.
 use Prim.Native.Nat.{ℕ, zero, suc, _+_, _≤_, _<_}
 use mathlib.Core.Path.{_≡_, refl, sym, ap, ap₂, _∙_}
-use mathlib.Core.List.{List, [], _∷_, _++_}
+use mathlib.Core.List.{List, _∷_, _++_}
 use native.Mathlib.Numerals.{add-one}
 use native.Mathlib.Omega.{arith}
 use native.Mathlib.Decide.{ℕ-discrete}
 use Rattle.sheet.specs.Views.{firstOf, coreByCounts}
-use Rattle.fit.specs.Lists.{numbers, joined, occurs, Each, EachPair}
+use Rattle.fit.specs.Lists.{numbers, joined, occurs, EachPair}
 use Rattle.fit.specs.Priority.{Above, order}
 use Rattle.fit.proofs.Lists.{each-of, each-number, joined-next}
 use Rattle.fit.proofs.Priority.{order-members, order-holds, order-rising}

@@ -1,6 +1,6 @@
 -- The same figures with the tasks under other numbers: what the lists of a core share, and that the two views of an ordered sheet are so.
 -- Assumes nothing.
-use Prim.Native.Nat.{ℕ, _+_, _*_, _/_, _<_}
+use Prim.Native.Nat.{ℕ, _*_, _/_, _<_}
 use mathlib.Core.Path.{_≡_, refl, sym, ap, _∙_}
 use mathlib.Core.List.{List, [], _∷_, map}
 use Rattle.sheet.specs.Records.{Figures}
