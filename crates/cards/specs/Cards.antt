@@ -1,5 +1,5 @@
--- The bench cards A to W, small inputs each with what it must give, and the listings of B, C and P, as one table about the definitions
--- (docs/SHEET.md, sections 4 to 8 and 11). N to Q, S to U and W are in no paper; all but T were worked out by hand.
+-- The bench cards A to Y, small inputs each with what it must give, and the listings of B, C, P and X, as one table about the definitions
+-- (docs/SHEET.md, sections 4 to 8, 11 and 12). N to Q, S to U and W to Y are in no paper; all but T were worked out by hand.
 use Prim.Native.Nat.{ℕ, _/_, _%_}
 use Prim.Native.String.{String}
 use mathlib.Core.Path.{_≡_}
@@ -15,10 +15,11 @@ use Rattle.fit.specs.Ring.{orderBy}
 use Rattle.fit.specs.Cores.{withinOn}
 use Rattle.checker.specs.Verdict.{verdict}
 use Rattle.checker.specs.Verdict as checker
+use Rattle.mover.specs.Moved.{moved}
 use Rattle.jobs.specs.Jobs.{listRows}
 use Rattle.figures.specs.Constructions.{sr, dct}
 use Rattle.figures.specs.Passing.{passes, trials}
-use Rattle.timing.specs.Calls.{Answer, release, finish, tick, accepted, served, refused, Entry, entry, calls, log}
+use Rattle.timing.specs.Calls.{Answer, release, finish, tick, accepted, served, idle, refused, Entry, entry, calls, log}
 use Rattle.dispatcher.specs.declared.Core.{Core}
 use Rattle.dispatcher.specs.Operations.{ask, step}
 use Rattle.dispatcher.specs.Starts.{sheetAnswer, sheetState, listAnswer, listState}
@@ -29,9 +30,13 @@ use Rattle.margin.specs.Answers as margin
 use Rattle.listing.specs.Words.{codes, lineFeed}
 use Rattle.listing.specs.Listing.{listingOf}
 
--- a header with n and c, and records of numbers below 256; a task is on core k, or on core 0
+-- a header of a version, or of version 1, with n and c, and records of numbers below 256; a task is on core k, or on core 0, and a core has
+-- a task count, or 0
+abbrev pub headerOf : (version n c : ℕ) → List ℕ
+headerOf version n c = 0x54 ∷ 0x53 ∷ 0x48 ∷ version ∷ 0 ∷ n ∷ c ∷ 0 ∷ []
+
 abbrev pub header : (n c : ℕ) → List ℕ
-header n c = 0x54 ∷ 0x53 ∷ 0x48 ∷ 1 ∷ 0 ∷ n ∷ c ∷ 0 ∷ []
+header = headerOf 1
 
 abbrev pub taskOn : (k p e M : ℕ) → List ℕ
 taskOn k p e M = p ∷ 0 ∷ e ∷ 0 ∷ k ∷ 0 ∷ M ∷ 0 ∷ 0 ∷ 0 ∷ []
@@ -39,8 +44,11 @@ taskOn k p e M = p ∷ 0 ∷ e ∷ 0 ∷ k ∷ 0 ∷ M ∷ 0 ∷ 0 ∷ 0 ∷ []
 abbrev pub task : (p e M : ℕ) → List ℕ
 task = taskOn 0
 
+abbrev pub coreOf : (count Q D : ℕ) → List ℕ
+coreOf count Q D = Q ∷ 0 ∷ count ∷ 0 ∷ D ∷ 0 ∷ 0 ∷ 0 ∷ []
+
 abbrev pub core : (Q D : ℕ) → List ℕ
-core Q D = Q ∷ 0 ∷ 0 ∷ 0 ∷ D ∷ 0 ∷ 0 ∷ 0 ∷ []
+core = coreOf 0
 
 -- the sheet of card B, (3,1), (7,1) and (13,6) with pivot 3, divisor 1 and factors 1, 2 and 4, but with this last budget and last factor
 abbrev pub listed : (e M : ℕ) → List ℕ
@@ -67,6 +75,31 @@ nearlyFull = header 1 1 ++ (longTask 2000 1999 1 ++ longCore 2000 1)
 -- the same with a job of three quarters of a thousandth more: the load is 4001/4000
 abbrev pub overfull : List ℕ
 overfull = header 2 1 ++ (longTask 2000 1999 1 ++ (longTask 4000 3 2 ++ longCore 2000 1))
+
+-- a version 2 sheet of two cores, with these old numbers at positions 1, 2 and 4 and this task count of core 1; where a record of version 1
+-- has its core, one of version 2 has its old number
+abbrev pub grouped : (a b last count : ℕ) → List ℕ
+grouped a b last count =
+    headerOf 2 5 2
+    ++ (taskOn 3 4 1 1
+    ++ (taskOn a 8 2 2
+    ++ (taskOn b 8 1 2
+    ++ (taskOn 2 5 1 1
+    ++ (taskOn last 9 7 2
+    ++ (coreOf 3 4 1
+    ++ coreOf count 9 2))))))
+
+-- the version 1 sheet of the old numbers 1, 4 and 0 and the task count 2
+abbrev pub single : List ℕ
+single =
+    header 5 2
+    ++ (taskOn 1 9 7 2
+    ++ (taskOn 0 8 2 2
+    ++ (taskOn 1 5 1 1
+    ++ (taskOn 0 4 1 1
+    ++ (taskOn 0 8 1 2
+    ++ (core 4 1
+    ++ core 9 2))))))
 
 -- seven bytes
 abbrev pub seven : List ℕ
@@ -189,6 +222,10 @@ logL =
     releases 0 ∷ releases 1 ∷ serves 0 ∷ serves 0 ∷ serves 1 ∷ serves 1 ∷ serves 1
     ∷ releases 0 ∷ serves 0 ∷ serves 0 ∷ entry (release 1) (refused 19 1) ∷ []
 
+-- core 0 of card X: its three tasks released, the lowest by priority first, and served until none is pending
+abbrev pub logX : List Entry
+logX = releases 4 ∷ releases 1 ∷ releases 3 ∷ serves 3 ∷ serves 1 ∷ serves 1 ∷ serves 4 ∷ entry tick idle ∷ []
+
 -- the periods of a list in ring order
 abbrev pub ring : List ℕ → ℕ → List ℕ
 ring ps n = map (at ps) (orderBy Ring (at ps) n)
@@ -220,12 +257,25 @@ linesP =
     ∷ "core 0 pivot 2000 divisor 1 load 1000"
     ∷ []
 
+-- the listing of card X
+abbrev pub linesX : List String
+linesX =
+    "TSH 2 tasks 5 cores 2"
+    ∷ "task 0 core 1 period 9 budget 7 factor 2 within 9"
+    ∷ "task 1 core 0 period 8 budget 2 factor 2 within 8"
+    ∷ "task 2 core 1 period 5 budget 1 factor 1 within 4"
+    ∷ "task 3 core 0 period 4 budget 1 factor 1 within 4"
+    ∷ "task 4 core 0 period 8 budget 1 factor 2 within 8"
+    ∷ "core 0 pivot 4 divisor 1 load 625"
+    ∷ "core 1 pivot 9 divisor 2 load 1000"
+    ∷ []
+
 -- what is answered for each task of a list of three, and for a number that it does not have
 abbrev pub margins : List ℕ → List margin.Outcome
 margins l = map (marginAnswer l) (numbers 0 4)
 
 -- The cards. A to F and O to Q are verdicts, G to I, N and R to T plans, J and K runs on the sheet of I, L a run on the bench, M a ring
--- order, U trials, V and W margins; then the listings.
+-- order, U trials, V and W margins, X and Y sheets of version 2; then the listings.
 pub record Cards : Type 0 where
   pub A : verdict (header 0 0) ≡ checker.accepted 0 0
   pub B : verdict (listed 6 4) ≡ checker.accepted 3 1
@@ -271,6 +321,18 @@ pub record Cards : Type 0 where
   pub «V» : margins jobsV ≡ ticks (pos 3) ∷ ticks (negsuc 0) ∷ ticks (pos 0) ∷ margin.refused 17 0 ∷ []
   -- of two tasks with one period the one with the lower number is above; the last task by number is the first by priority
   pub W : margins jobsW ≡ ticks (pos 2) ∷ ticks (negsuc 0) ∷ ticks (pos 2) ∷ margin.refused 17 0 ∷ []
+  -- the checker, the mover both ways, and a run on core 0, whose tasks in priority order are 3, 1 and 4
+  pub X :
+      (verdict (grouped 1 4 0 2) ≡ checker.accepted 5 2)
+      × (moved (grouped 1 4 0 2) ≡ single)
+      × (moved single ≡ grouped 1 4 0 2)
+      × (onSheet (grouped 1 4 0 2) logX ≡ run logX)
+  -- the old number 2 stands twice; the counts make six; of two tasks with one period the one with the higher old number stands first
+  pub Y :
+      (verdict (grouped 1 4 2 2) ≡ checker.refused 23 0)
+      × (verdict (grouped 1 4 0 3) ≡ checker.refused 23 0)
+      × (verdict (grouped 4 1 0 2) ≡ checker.refused 23 0)
   pub listingB : listingOf (listed 6 4) ≡ text linesB
   pub listingC : listingOf (listed 7 4) ≡ text linesC
   pub listingP : listingOf nearlyFull ≡ text linesP
+  pub listingX : listingOf (grouped 1 4 0 2) ≡ text linesX

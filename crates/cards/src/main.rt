@@ -1,11 +1,12 @@
 // Runs the cards of specs/Cards.antt, but for U, which is about the definition of the trials, through the code and prints a line for each
-// (three for R, one a start), then the listing of the sheets of B, C and P.
+// (three for R, one a start; for X the verdict, the mover both ways and a run; three for Y), then the listing of the sheets of B, C, P and X.
 ghost use Prim.Native.Nat.{_+_, _*_, _≤_};
 ghost use mathlib.Core.Path.{_≡_};
+ghost use mathlib.Core.Bool.{true};
 ghost use lib.ListN.{length};
 ghost use Rattle.io.specs.Counts.{Counts};
 ghost use Rattle.fit.specs.Fits.{within as withinOf};
-ghost use Rattle.cards.specs.Cards.{header, listed as listedSheet, seven, jobsG, jobsH, jobsI, jobsL, jobsN, jobsR, jobsS, jobsT, jobsV, jobsW, unchained as unchainedSheet, nearlyFull, overfull as overfullSheet};
+ghost use Rattle.cards.specs.Cards.{header, listed as listedSheet, seven, jobsG, jobsH, jobsI, jobsL, jobsN, jobsR, jobsS, jobsT, jobsV, jobsW, unchained as unchainedSheet, nearlyFull, overfull as overfullSheet, grouped as groupedSheet, single as singleSheet};
 use checker::Verdict;
 use dispatcher::Answer;
 use dispatcher::Core;
@@ -14,6 +15,7 @@ use fit::By;
 use libc::STDOUT_FILENO;
 use listing::Listed;
 use margin::Slack;
+use mover::Moved;
 use planner::Planned;
 use sheet::Refusal;
 
@@ -136,7 +138,26 @@ fn overfull() -> [u8; 36]
     *b"TSH\x01\x00\x02\x01\x00\xd0\x07\xcf\x07\x00\x00\x01\x00\x00\x00\xa0\x0f\x03\x00\x00\x00\x02\x00\x00\x00\xd0\x07\x00\x00\x01\x00\x00\x00"
 }
 
-// Cards A to F and O to Q: what the checker answers.
+// The sheet of card X with these old numbers at positions 1, 2 and 4 and this task count of core 1.
+fn grouped(a: u8, b: u8, last: u8, count: u8) -> [u8; 74]
+    ensures { λ r. ⌜ r ≡ groupedSheet a b last count ⌝ }
+{
+    let mut sheet =
+        *b"TSH\x02\x00\x05\x02\x00\x04\x00\x01\x00\x03\x00\x01\x00\x00\x00\x08\x00\x02\x00\x01\x00\x02\x00\x00\x00\x08\x00\x01\x00\x04\x00\x02\x00\x00\x00\x05\x00\x01\x00\x02\x00\x01\x00\x00\x00\x09\x00\x07\x00\x00\x00\x02\x00\x00\x00\x04\x00\x03\x00\x01\x00\x00\x00\x09\x00\x02\x00\x02\x00\x00\x00";
+    sheet[22] = a;
+    sheet[32] = b;
+    sheet[52] = last;
+    sheet[68] = count;
+    sheet
+}
+
+fn single() -> [u8; 74]
+    ensures { λ r. ⌜ r ≡ singleSheet ⌝ }
+{
+    *b"TSH\x01\x00\x05\x02\x00\x09\x00\x07\x00\x01\x00\x02\x00\x00\x00\x08\x00\x02\x00\x00\x00\x02\x00\x00\x00\x05\x00\x01\x00\x01\x00\x01\x00\x00\x00\x04\x00\x01\x00\x00\x00\x01\x00\x00\x00\x08\x00\x01\x00\x00\x00\x02\x00\x00\x00\x04\x00\x00\x00\x01\x00\x00\x00\x09\x00\x00\x00\x02\x00\x00\x00"
+}
+
+// Cards A to F, O to Q and Y: what the checker answers.
 fn check_card(name: &[u8], sheet: &[u8]) {
     print(name);
     let verdict = checker::check(sheet);
@@ -398,6 +419,59 @@ fn margin_card(name: &[u8], jobs: &[u8]) {
     print(b"\n");
 }
 
+// Two slices have the same bytes.
+fn same(a: &[u8], b: &[u8]) -> bool
+    ensures { λ r. ⌜ (r ≡ true → now (a .entry) ≡ now (b .entry)) × (now (a .entry) ≡ now (b .entry) → r ≡ true) ⌝ }
+{
+    if a.len() != b.len() {
+        return false;
+    }
+    let mut i = 0;
+    while i < a.len() {
+        if a[i] != b[i] {
+            return false;
+        }
+        i += 1;
+    }
+    true
+}
+
+// What the mover makes of a sheet: its length, and whether it is the other sheet.
+fn print_moved(sheet: &[u8], other: &[u8]) {
+    let mut out = [0u8; 712];
+    let moved = mover::move_sheet(sheet, &mut out);
+    match moved {
+        Moved::Refused { word, place } => print_refused(word, place),
+        Moved::Written(length) => {
+            let end = length as usize;
+            print(b" moved");
+            print_number(end as u64);
+            if same(&out[..end], other) {
+                print(b" same");
+            } else {
+                print(b" different");
+            }
+        }
+    }
+}
+
+// Card X: the checker, the mover both ways, and core 0 with its tasks released, the lowest by priority first.
+fn card_x() {
+    let sheet = grouped(1, 4, 0, 2);
+    let other = single();
+    check_card(b"X", &sheet);
+    print(b"X");
+    print_moved(&sheet, &other);
+    print_moved(&other, &sheet);
+    print(b"\nX");
+    let core = after(dispatcher::start_sheet(&sheet, 0));
+    let core = after(core.release(4));
+    let core = after(core.release(1));
+    let core = after(core.release(3));
+    ticked(core, 5);
+    print(b"\n");
+}
+
 // The listing of a sheet.
 fn print_listing(sheet: &[u8]) {
     let mut text = [0u8; 8192];
@@ -426,7 +500,12 @@ fn main() {
     cards_r_to_t();
     margin_card(b"V", &jobs_v());
     margin_card(b"W", &jobs_w());
+    card_x();
+    check_card(b"Y", &grouped(1, 4, 2, 2));
+    check_card(b"Y", &grouped(1, 4, 0, 3));
+    check_card(b"Y", &grouped(4, 1, 0, 2));
     print_listing(&listed(6, 4));
     print_listing(&listed(7, 4));
     print_listing(&nearly_full());
+    print_listing(&grouped(1, 4, 0, 2));
 }
