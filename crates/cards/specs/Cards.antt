@@ -90,8 +90,8 @@ grouped a b last count =
     ++ coreOf count 9 2))))))
 
 -- the version 1 sheet of the old numbers 1, 4 and 0 and the task count 2
-abbrev pub single : List ℕ
-single =
+abbrev pub ungrouped : List ℕ
+ungrouped =
     header 5 2
     ++ (taskOn 1 9 7 2
     ++ (taskOn 0 8 2 2
@@ -324,8 +324,8 @@ pub record Cards : Type 0 where
   -- the checker, the mover both ways, and a run on core 0, whose tasks in priority order are 3, 1 and 4
   pub X :
       (verdict (grouped 1 4 0 2) ≡ checker.accepted 5 2)
-      × (moved (grouped 1 4 0 2) ≡ single)
-      × (moved single ≡ grouped 1 4 0 2)
+      × (moved (grouped 1 4 0 2) ≡ ungrouped)
+      × (moved ungrouped ≡ grouped 1 4 0 2)
       × (onSheet (grouped 1 4 0 2) logX ≡ run logX)
   -- the old number 2 stands twice; the counts make six; of two tasks with one period the one with the higher old number stands first
   pub Y :

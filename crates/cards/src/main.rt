@@ -6,7 +6,7 @@ ghost use mathlib.Core.Bool.{true};
 ghost use lib.ListN.{length};
 ghost use Rattle.io.specs.Counts.{Counts};
 ghost use Rattle.fit.specs.Fits.{within as withinOf};
-ghost use Rattle.cards.specs.Cards.{header, listed as listedSheet, seven, jobsG, jobsH, jobsI, jobsL, jobsN, jobsR, jobsS, jobsT, jobsV, jobsW, unchained as unchainedSheet, nearlyFull, overfull as overfullSheet, grouped as groupedSheet, single as singleSheet};
+ghost use Rattle.cards.specs.Cards.{header, listed as listedSheet, seven, jobsG, jobsH, jobsI, jobsL, jobsN, jobsR, jobsS, jobsT, jobsV, jobsW, unchained as unchainedSheet, nearlyFull, overfull as overfullSheet, grouped as groupedSheet, ungrouped as ungroupedSheet};
 use checker::Verdict;
 use dispatcher::Answer;
 use dispatcher::Core;
@@ -151,8 +151,8 @@ fn grouped(a: u8, b: u8, last: u8, count: u8) -> [u8; 74]
     sheet
 }
 
-fn single() -> [u8; 74]
-    ensures { λ r. ⌜ r ≡ singleSheet ⌝ }
+fn ungrouped() -> [u8; 74]
+    ensures { λ r. ⌜ r ≡ ungroupedSheet ⌝ }
 {
     *b"TSH\x01\x00\x05\x02\x00\x09\x00\x07\x00\x01\x00\x02\x00\x00\x00\x08\x00\x02\x00\x00\x00\x02\x00\x00\x00\x05\x00\x01\x00\x01\x00\x01\x00\x00\x00\x04\x00\x01\x00\x00\x00\x01\x00\x00\x00\x08\x00\x01\x00\x00\x00\x02\x00\x00\x00\x04\x00\x00\x00\x01\x00\x00\x00\x09\x00\x00\x00\x02\x00\x00\x00"
 }
@@ -458,7 +458,7 @@ fn print_moved(sheet: &[u8], other: &[u8]) {
 // Card X: the checker, the mover both ways, and core 0 with its tasks released, the lowest by priority first.
 fn card_x() {
     let sheet = grouped(1, 4, 0, 2);
-    let other = single();
+    let other = ungrouped();
     check_card(b"X", &sheet);
     print(b"X");
     print_moved(&sheet, &other);

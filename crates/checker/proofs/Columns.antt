@@ -1,4 +1,4 @@
--- The rows of the table read the cores of the tasks alone: figures that agree in those have the same rows, and the same order.
+-- Figures that differ in the function of cores alone, and agree in it below n, have the same rows, and the same order.
 -- Assumes nothing.
 use Prim.Native.Nat.{ℕ, zero, suc, _+_, _-_, _≤_, _<_}
 use mathlib.Core.Path.{_≡_, refl, ap}

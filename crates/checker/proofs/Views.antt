@@ -17,6 +17,7 @@ use Rattle.fit.proofs.Lists.{each-of, each-both}
 use Rattle.fit.proofs.Priority.{order-members, order-count, order-rising}
 use Rattle.fit.proofs.Levels.{multiples-pairs, level-load, budget-within, within-period}
 use Rattle.views.specs.Renamed.{Renamed, Agree}
+use Rattle.views.proofs.ByNumber.{position-below}
 use Rattle.views.proofs.Renamed.{renamed-multiples, multiples-renamed, renamed-full, renamed-load, view-renamed, agree-renamed}
 use Rattle.checker.specs.Verdict.{accepted, verdict}
 use Rattle.checker.specs.Accepted.{LoadAtMostOne, TasksInRange, CoresInRange, CoresFit, Fitting, OrderKept, Schedulable, CoreOf}
@@ -94,7 +95,7 @@ module _ (f g : Figures) (r : ℕ → ℕ) (s : Renamed f g r) where
         load = λ k h. load-back k h (t .fits .load k (at-core k h));
       }
 
-  pub renamed-exactly : Fitting f ↔ Fitting g
+  renamed-exactly : Fitting f ↔ Fitting g
   renamed-exactly = (renamed-fits, fits-renamed)
 
 -- figures that agree fit alike
@@ -106,6 +107,12 @@ pub views-renamed : (grouped : Bool) (n c : ℕ) (records : List ℕ) → OrderK
 unfolding OrderKept
 views-renamed true n c records h = view-renamed (positionedIn true n c records) (numberAt records) (positionedIn true n c records .core) (countAt (drop (10 * n) records)) refl (h refl)
 views-renamed false n c records h = agree-renamed (positionedIn false n c records) (positionedIn false n c records) (record { tasks = refl; cores = refl; period = λ i b. refl; budget = λ i b. refl; core = λ i b. refl; factor = λ i b. refl; pivot = λ k b. refl; divisor = λ k b. refl })
+
+-- a task whose number is below n stands at a position below n
+pub position-in : (grouped : Bool) (n c : ℕ) (records : List ℕ) → OrderKept grouped n c records → (i : ℕ) → i < n → positionOfNumber grouped n records i < n
+unfolding OrderKept
+position-in true n c records h i q = position-below (numberAt records) n (h refl .numbers) i q
+position-in false n c records h i q = q
 
 pub sheet-renamed : (s : List ℕ) → OrderKept (isGrouped s) (taskCount s) (coreCount s) (drop 8 s) → Renamed (byPosition s) (figures s) (numberOfPosition (isGrouped s) (drop 8 s))
 sheet-renamed s h = views-renamed (isGrouped s) (taskCount s) (coreCount s) (drop 8 s) h

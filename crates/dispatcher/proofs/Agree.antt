@@ -12,7 +12,7 @@ use Rattle.dispatcher.specs.Steps.{freshBy}
 use Rattle.dispatcher.proofs.Starting.{fresh-renamed}
 
 -- figures that agree have the same fresh tasks on each core
-pub agree-tasks : (s t : List ℕ) → Agree (figures s) (figures t) → (k : ℕ) → sheetTasks t k ≡ sheetTasks s k
+agree-tasks : (s t : List ℕ) → Agree (figures s) (figures t) → (k : ℕ) → sheetTasks t k ≡ sheetTasks s k
 unfolding sheetTasks freshTasks freshBy
 agree-tasks s t h k = fresh-renamed (figures s) (figures t) (λ i. i) (agree-renamed (figures s) (figures t) h) k
 

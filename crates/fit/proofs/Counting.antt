@@ -115,7 +115,7 @@ abbrev pub times : (ℕ → ℕ) → ℕ → ℕ → ℕ
 times f x n = occurs x (map f (numbers 0 n))
 
 module _ (f : ℕ → ℕ) where
-  pub times-next : (x n : ℕ) → times f x (suc n) ≡ times f x n + cond (eqb (f n) x) 1 0
+  times-next : (x n : ℕ) → times f x (suc n) ≡ times f x n + cond (eqb (f n) x) 1 0
   times-next x n = rw (numbers-last 0 n, zero-add n) (occurs-last f x n (numbers 0 n))
 
   pub times-hit : (x n : ℕ) → f n ≡ x → times f x (suc n) ≡ times f x n + 1

@@ -34,6 +34,13 @@ over-next s t l xs ys a e room h q =
         let short : length (drop a xs) ≤ length xs - a = simp length-drop (omega arith) in
         drop-of-length-le (drop a xs) short
 
+-- a header of 8 bytes, a part of a bytes and a last part, laid over a buffer one after the other
+pub parts-written : (h t c out head ys zs : List ℕ) (a : ℕ) → length h ≡ 8 → length t ≡ a → 8 + a ≤ length out → head ≡ over h out → ys ≡ over t (take (length head - 8) (drop 8 head)) → zs ≡ over c (take (length (putMid 8 (length head - 8) head ys) - (8 + a)) (drop (8 + a) (putMid 8 (length head - 8) head ys))) → putMid (8 + a) (length (putMid 8 (length head - 8) head ys) - (8 + a)) (putMid 8 (length head - 8) head ys) zs ≡ over (h ++ (t ++ c)) out
+parts-written h t c out head ys zs a eh et room b d e =
+    over-next (h ++ t) c out (putMid 8 (length head - 8) head ys) zs (8 + a) (simp length-append (omega (arith, eh, et))) room
+    (over-next h t out head ys 8 eh (omega arith) b d) e
+    ∙ ap (λ (x : List ℕ). over x out) (append-assoc h t c)
+
 -- records of one size w
 module _ (f : ℕ → List ℕ) (w : ℕ) (same : (i : ℕ) → length (f i) ≡ w) where
   pub records-length : (a n : ℕ) → length (joined f (numbers a n)) ≡ w * n

@@ -25,7 +25,7 @@ use Rattle.checker.specs.declared.Verdict.the-variants.{Accepted, Refused as Re
 use Rattle.checker.specs.Accepted.{Acceptable, Fitting, OrderKept}
 use Rattle.checker.specs.Verdict.{accepted, verdict, outcomeOf}
 use Rattle.checker.proofs.Acceptance.{accepted-exactly}
-use Rattle.checker.proofs.Views.{agree-fits, sheet-renamed, views-fit}
+use Rattle.checker.proofs.Views.{agree-fits, position-in, sheet-renamed, views-fit}
 use Rattle.fit.proofs.Lists.{part}
 use Rattle.listing.specs.declared.Listed.{Listed}
 use Rattle.listing.specs.declared.Listed.the-variants.{Written}
@@ -35,11 +35,10 @@ use Rattle.listing.specs.Answers.{written, refused, listed, holding, ans
 use Rattle.listing.proofs.Writing.{put-join}
 use Rattle.listing.proofs.Agree.{cores-renamed, tasks-agree}
 
--- a task whose number is below n stands at a position below n
-position-in : (grouped : Bool) (n c : ℕ) (records : List ℕ) → OrderKept grouped n c records → (i : ℕ) → i < n → positionOfNumber grouped n records i < n
-unfolding OrderKept
-position-in true n c records h i q = position-below (numberAt records) n (h refl .numbers) i q
-position-in false n c records h i q = q
+-- the text of an accepted sheet
+pub accepted-text : (s : List ℕ) (n c : ℕ) → verdict s ≡ accepted n c → listingOf s ≡ sheetText (word s 3) (figures s)
+unfolding listingOf textOf
+accepted-text s n c e = rw e
 
 module _ (s : List ℕ) (n c : ℕ) (v : verdict s ≡ accepted n c) where
   good : Acceptable s
@@ -54,7 +53,7 @@ module _ (s : List ℕ) (n c : ℕ) (v : verdict s ≡ accepted n c) where
   pub tasks-few : n ≤ 64
   tasks-few = rw tasks-same (good .frame .tasks)
 
-  pub cores-few : c ≤ 8
+  cores-few : c ≤ 8
   cores-few = rw cores-same (good .frame .cores)
 
   pub sheet-long : 8 ≤ length s
@@ -187,15 +186,11 @@ module _ (s out new : List ℕ) (r : Verdict) (after most : ℕ) (h : 8192 ≤ l
     is-accepted = sym v ∙ ap outcomeOf q
 
     module _ (p : Capped most out 0 (sheetText (word s 3) (figures s)) new after) where
-      accepted-text : listingOf s ≡ sheetText (word s 3) (figures s)
-      unfolding listingOf textOf
-      accepted-text = rw is-accepted
-
       pub accepted-answer : written after ≡ listed s out
-      accepted-answer = written-answer s out new _ after h accepted-text (p .put)
+      accepted-answer = written-answer s out new _ after h (accepted-text s n c is-accepted) (p .put)
 
       pub accepted-bytes : new ≡ holding s out
-      accepted-bytes = written-bytes s out new _ after h accepted-text (p .put)
+      accepted-bytes = written-bytes s out new _ after h (accepted-text s n c is-accepted) (p .put)
 
 -- a text that is written lies within its buffer, and that front of it is as long
 module _ (s out new : List ℕ) (r : Listed) (x : ℕ) (q : r ≡ Written x) (e : answerOf r ≡ listed s out) (b : new ≡ holding s out) (k : length new ≡ length out) where

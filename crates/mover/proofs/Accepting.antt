@@ -13,14 +13,15 @@ use Rattle.sheet.specs.Records.{numberAt, taskCount, coreCount}
 use Rattle.sheet.specs.Views.{version, isGrouped, positionOf, positionOfNumber, byPosition, figures}
 use Rattle.fit.specs.Lists.{at}
 use Rattle.views.specs.Order.{EachOnce}
-use Rattle.views.proofs.ByNumber.{position-below, position-number}
+use Rattle.views.specs.Renamed.{Agree}
+use Rattle.views.proofs.ByNumber.{position-number}
 use Rattle.checker.specs.Verdict.{accepted, verdict}
 use Rattle.checker.specs.Accepted.{Framed, SparesZero, Fitting, OrderKept, Acceptable}
 use Rattle.checker.proofs.Acceptance.{accepted-exactly}
-use Rattle.checker.proofs.Views.{agree-fits, views-fit}
+use Rattle.checker.proofs.Views.{agree-fits, position-in, views-fit}
 use Rattle.mover.specs.Moved.{Layout, laidOut, layout1, layout2, version1, version2}
 use Rattle.mover.proofs.Fields.{laid-mark, laid-version, laid-tasks, laid-cores, laid-spare, laid-length, laid-task-spare, laid-count, laid-core-spare}
-use Rattle.mover.proofs.Agreeing.{version1-single, version1-agree, single-figures, version2-order, version2-agree, grouping-below}
+use Rattle.mover.proofs.Agreeing.{version1-ungrouped, version1-agree, ungrouped-figures, version2-order, version2-agree, grouping-below}
 
 -- the frame of a sheet that is laid out anew
 laid-framed : (y : Layout) (s : List ℕ) → (y .version ≡ 1) ⊎ (y .version ≡ 2) → Framed s → Framed (laidOut y s)
@@ -67,7 +68,7 @@ module _ (s : List ℕ) (g : isGrouped s ≡ true) (o : OrderKept (isGrouped s) 
   positions = ap (λ b. positionOfNumber b (taskCount s) (drop 8 s)) g
 
   pub inside : (i : ℕ) → i < taskCount s → positionOfNumber (isGrouped s) (taskCount s) (drop 8 s) i < taskCount s
-  inside i h = subst (λ (q : ℕ → ℕ). q i < taskCount s) (sym positions) (position-below (numberAt (drop 8 s)) (taskCount s) numbers-once i h)
+  inside = position-in (isGrouped s) (taskCount s) (coreCount s) (drop 8 s) o
 
   pub own : (j : ℕ) → j < taskCount s → positionOfNumber (isGrouped s) (taskCount s) (drop 8 s) (numberAt (drop 8 s) j) ≡ j
   own j h = ap (λ (q : ℕ → ℕ). q (numberAt (drop 8 s) j)) positions ∙ position-number (numberAt (drop 8 s)) (taskCount s) numbers-once j h
@@ -99,7 +100,7 @@ module _ (s : List ℕ) (g : isGrouped s ≡ true) (o : OrderKept (isGrouped s) 
   to-version1 h = record {
     frame = laid-framed (layout1 s) s (inl refl) (h .frame);
     spares = spares-to (h .spares);
-    order = λ e. absurd (true≢false (sym e ∙ version1-single s));
+    order = λ e. absurd (true≢false (sym e ∙ version1-ungrouped s));
     fitting = fits-to .0 (h .fitting);
   }
 
@@ -125,16 +126,38 @@ grouped-exactly s n c g = (to, back)
         let (a, en, ec) = accepted-exactly (version1 s) n c .0 (t .2) in
         accepted-exactly s n c .1 (from-version1 s g (t .1) (t .0) a, en ∙ version1-counts s .0, ec ∙ version1-counts s .1)
 
+-- The same of any sheet t of version 1 with the counts and figures of s, whose spare bytes are zero where those of s are.
+pub alike-exactly : (s t : List ℕ) (n c : ℕ) → isGrouped s ≡ true → isGrouped t ≡ false → Framed s → Framed t → Agree (figures s) (figures t) → SparesZero s ↔ SparesZero t → (verdict s ≡ accepted n c) ↔ (OrderKept (isGrouped s) (taskCount s) (coreCount s) (drop 8 s) × (verdict t ≡ accepted n c))
+unfolding OrderKept
+alike-exactly s t n c g u f h a p = (to, back)
+  where
+    fits : OrderKept (isGrouped s) (taskCount s) (coreCount s) (drop 8 s) → Fitting (byPosition s) ↔ Fitting (byPosition t)
+    fits o =
+        let x = views-fit s o in
+        let y = agree-fits (figures s) (figures t) a in
+        let z : figures t ≡ byPosition t = ungrouped-figures t u in
+        ((λ q. rw z at (y .0 (x .0 q))), (λ q. x .1 (y .1 (rw z q))))
+
+    to : verdict s ≡ accepted n c → OrderKept (isGrouped s) (taskCount s) (coreCount s) (drop 8 s) × (verdict t ≡ accepted n c)
+    to v =
+        let (q, en, ec) = accepted-exactly s n c .0 v in
+        (q .order, accepted-exactly t n c .1 (record { frame = h; spares = p .0 (q .spares); order = λ e. absurd (true≢false (sym e ∙ u)); fitting = fits (q .order) .0 (q .fitting) }, en ∙ sym (a .tasks), ec ∙ sym (a .cores)))
+
+    back : OrderKept (isGrouped s) (taskCount s) (coreCount s) (drop 8 s) × (verdict t ≡ accepted n c) → verdict s ≡ accepted n c
+    back w =
+        let (q, en, ec) = accepted-exactly t n c .0 (w .1) in
+        accepted-exactly s n c .1 (record { frame = f; spares = p .1 (q .spares); order = w .0; fitting = fits (w .0) .1 (q .fitting) }, en ∙ a .tasks, ec ∙ a .cores)
+
 -- from version 1 to version 2
-module _ (s : List ℕ) (single : isGrouped s ≡ false) (h : Acceptable s) where
+module _ (s : List ℕ) (ungrouped : isGrouped s ≡ false) (h : Acceptable s) where
   pub to-version2 : Acceptable (version2 s)
   unfolding version2
   to-version2 = record {
     frame = laid-framed (layout2 s) s (inr refl) (h .frame);
-    spares = laid-spares (layout2 s) s (grouping-below s single (h .fitting .tasks .core)) (λ e k. absurd (true≢false (sym (rw (laid-version (layout2 s) s) refl) ∙ e))) (h .spares);
-    order = version2-order s single (h .fitting .tasks .core);
+    spares = laid-spares (layout2 s) s (grouping-below s ungrouped (h .fitting .tasks .core)) (λ e k. absurd (true≢false (sym (rw (laid-version (layout2 s) s) refl) ∙ e))) (h .spares);
+    order = version2-order s ungrouped (h .fitting .tasks .core);
     fitting = fitting;
   }
     where
       fitting : Fitting (byPosition (laidOut (layout2 s) s))
-      fitting = views-fit (version2 s) (version2-order s single (h .fitting .tasks .core)) .1 (agree-fits (figures s) (figures (version2 s)) (version2-agree s single (h .fitting .tasks .core)) .0 (rw (single-figures s single) (h .fitting)))
+      fitting = views-fit (version2 s) (version2-order s ungrouped (h .fitting .tasks .core)) .1 (agree-fits (figures s) (figures (version2 s)) (version2-agree s ungrouped (h .fitting .tasks .core)) .0 (rw (ungrouped-figures s ungrouped) (h .fitting)))

@@ -13,28 +13,18 @@ use Rattle.fit.specs.Priority.{Higher, order}
 use Rattle.fit.specs.Cores.{orderOn}
 use Rattle.views.specs.Order.{EachOnce, InOrder}
 use Rattle.views.specs.Renamed.{Agree}
+use Rattle.views.proofs.Counts.{first-ext, core-ext}
 use Rattle.views.proofs.ByNumber.{position-below, number-position}
 use Rattle.views.proofs.Grouping.{spot-member, grouping-order}
 use Rattle.checker.specs.Accepted.{OrderKept}
 use Rattle.mover.specs.Moved.{Layout, laidOut, grouping, layout1, layout2, version1, version2}
-use Rattle.mover.proofs.Fields.{laid-version, laid-tasks, laid-cores, laid-period, laid-budget, laid-fourth, laid-factor, laid-pivot, laid-count, laid-divisor}
-
--- counts that agree give the same cores
-first-ext : (f g : ℕ → ℕ) (c : ℕ) → ((k : ℕ) → k < c → f k ≡ g k) → (k : ℕ) → k ≤ c → firstOf f k ≡ firstOf g k
-unfolding firstOf
-first-ext f g c h zero q = refl
-first-ext f g c h (suc k) q = rw (first-ext f g c h k (omega arith), h k q)
-
-core-ext : (f g : ℕ → ℕ) (c : ℕ) → ((k : ℕ) → k < c → f k ≡ g k) → (d j : ℕ) → d ≤ c → coreByCounts f d j ≡ coreByCounts g d j
-unfolding coreByCounts
-core-ext f g c h zero j q = refl
-core-ext f g c h (suc d) j q = rw (first-ext f g c h (suc d) q, core-ext f g c h d j (omega arith))
+use Rattle.mover.proofs.Fields.{laid-version, laid-tasks, laid-cores, laid-period, laid-budget, laid-byte4, laid-factor, laid-pivot, laid-count, laid-divisor}
 
 -- from version 2 to version 1
 module _ (s : List ℕ) where
-  pub version1-single : isGrouped (version1 s) ≡ false
+  pub version1-ungrouped : isGrouped (version1 s) ≡ false
   unfolding version1
-  version1-single = rw (laid-version (layout1 s) s)
+  version1-ungrouped = rw (laid-version (layout1 s) s)
 
   -- its records by position have the figures of the sheet by number
   pub version1-agree : Agree (figures s) (byPosition (version1 s))
@@ -44,7 +34,7 @@ module _ (s : List ℕ) where
     cores = laid-cores (layout1 s) s;
     period = λ i h. laid-period (layout1 s) s i h;
     budget = λ i h. laid-budget (layout1 s) s i h;
-    core = λ i h. rw (laid-version (layout1 s) s) (laid-fourth (layout1 s) s i h);
+    core = λ i h. rw (laid-version (layout1 s) s) (laid-byte4 (layout1 s) s i h);
     factor = λ i h. laid-factor (layout1 s) s i h;
     pivot = λ k h. rw (laid-tasks (layout1 s) s) (laid-pivot (layout1 s) s k h);
     divisor = λ k h. rw (laid-tasks (layout1 s) s) (laid-divisor (layout1 s) s k h);
@@ -80,10 +70,10 @@ pub version2-grouped : (s : List ℕ) → isGrouped (version2 s) ≡ true
 unfolding version2
 version2-grouped s = rw (laid-version (layout2 s) s)
 
-pub single-figures : (s : List ℕ) → isGrouped s ≡ false → figures s ≡ byPosition s
-single-figures s e = rw e
+pub ungrouped-figures : (s : List ℕ) → isGrouped s ≡ false → figures s ≡ byPosition s
+ungrouped-figures s e = rw e
 
-module _ (s : List ℕ) (single : isGrouped s ≡ false) (placed : (i : ℕ) → i < taskCount s → byPosition s .core i < coreCount s) where
+module _ (s : List ℕ) (ungrouped : isGrouped s ≡ false) (placed : (i : ℕ) → i < taskCount s → byPosition s .core i < coreCount s) where
   abbrev f : Figures
   f = byPosition s
 
@@ -95,11 +85,11 @@ module _ (s : List ℕ) (single : isGrouped s ≡ false) (placed : (i : ℕ) →
 
   -- the layout, by the figures by position
   abbrev layout : Layout
-  layout = record { version = 2; from = at tasks; fourth = at tasks; count = count }
+  layout = record { version = 2; from = at tasks; byte4 = at tasks; count = count }
 
   same-layout : layout2 s ≡ layout
   unfolding grouping orderOn
-  same-layout = rw (single-figures s single)
+  same-layout = rw (ungrouped-figures s ungrouped)
 
   unfoldable m : List ℕ
   m = laidOut layout s
@@ -126,7 +116,7 @@ module _ (s : List ℕ) (single : isGrouped s ≡ false) (placed : (i : ℕ) →
 
   m-order : InOrder (g .period) (numberAt (drop 8 m)) (g .core) (countAt (drop (10 * taskCount s) (drop 8 m))) (taskCount s) (coreCount s)
   unfolding m
-  m-order = in-order-ext _ _ _ _ _ _ _ _ (taskCount s) (coreCount s) (λ j h. laid-period layout s j h) (λ j h. laid-fourth layout s j h) (λ j h. m-core j) (λ k h. laid-count layout s k h) (grouping-order (f .period) (f .core) (taskCount s) (coreCount s) placed)
+  m-order = in-order-ext _ _ _ _ _ _ _ _ (taskCount s) (coreCount s) (λ j h. laid-period layout s j h) (λ j h. laid-byte4 layout s j h) (λ j h. m-core j) (λ k h. laid-count layout s k h) (grouping-order (f .period) (f .core) (taskCount s) (coreCount s) placed)
 
   m-counts : (taskCount m ≡ taskCount s) × (coreCount m ≡ coreCount s)
   unfolding m
@@ -147,7 +137,7 @@ module _ (s : List ℕ) (single : isGrouped s ≡ false) (placed : (i : ℕ) →
   unfolding m
   m-position i h =
       let b = position-below (numberAt (drop 8 m)) (taskCount s) (m-order .numbers) i h in
-      (b, sym (laid-fourth layout s _ b) ∙ number-position (numberAt (drop 8 m)) (taskCount s) (m-order .numbers) i h)
+      (b, sym (laid-byte4 layout s _ b) ∙ number-position (numberAt (drop 8 m)) (taskCount s) (m-order .numbers) i h)
 
   abbrev position : ℕ → ℕ
   position = positionOf (numberAt (drop 8 m)) (taskCount s)
@@ -166,7 +156,7 @@ module _ (s : List ℕ) (single : isGrouped s ≡ false) (placed : (i : ℕ) →
   }
 
   pub version2-agree : Agree (figures s) (figures (version2 s))
-  version2-agree = subst₂ Agree (sym (single-figures s single)) (sym (ap figures version2-laid ∙ m-view)) m-agree
+  version2-agree = subst₂ Agree (sym (ungrouped-figures s ungrouped)) (sym (ap figures version2-laid ∙ m-view)) m-agree
 
   -- every position of the new sheet comes from one of the old
   pub grouping-below : (i : ℕ) → i < taskCount s → layout2 s .from i < taskCount s

@@ -6,7 +6,7 @@ use mathlib.Core.List.{List, [], _∷_, _++_, append-nil}
 use mathlib.Core.Bool.{Bool, true, false}
 use native.Mathlib.Omega.{arith}
 use borrow.Author.Tests.{ltb-true, ltb-false}
-use lib.ListN.{length, getD, drop, length-append, List·getD-append}
+use lib.ListN.{length, getD, take, drop, length-append, List·getD-append}
 use lib.Seq.{drop-at, getD-append-add}
 use lib.Dec.{ltb}
 use Rattle.sheet.specs.Numbers.{word, long}
@@ -27,12 +27,24 @@ bytes-at s a (suc n) (suc b) h =
     let z : a + suc b ≡ suc a + b = omega arith in
     rw z (bytes-at s (suc a) n b (omega arith))
 
+pub bytes-take : (s : List ℕ) (a n : ℕ) → a + n ≤ length s → bytes s a n ≡ take n (drop a s)
+unfolding bytes
+bytes-take s a zero h = refl
+bytes-take s a (suc n) h =
+    let first : drop a s ≡ getD s a 0 ∷ drop (suc a) s = drop-cons a s (omega arith) in
+    rw first (ap (λ (l : List ℕ). getD s a 0 ∷ l) (bytes-take s (suc a) n (omega arith)))
+  where
+    drop-cons : (a : ℕ) (s : List ℕ) → a < length s → drop a s ≡ getD s a 0 ∷ drop (suc a) s
+    drop-cons a [] h = absurd (omega arith)
+    drop-cons zero (x ∷ s) h = refl
+    drop-cons (suc a) (x ∷ s) h = drop-cons a s (omega arith)
+
 bytes-length : (s : List ℕ) (a n : ℕ) → length (bytes s a n) ≡ n
 unfolding bytes
 bytes-length s a zero = refl
 bytes-length s a (suc n) = rw (bytes-length s (suc a) n)
 
-pub bytes-ext : (s t : List ℕ) (a b n : ℕ) → ((x : ℕ) → x < n → getD s (a + x) 0 ≡ getD t (b + x) 0) → bytes s a n ≡ bytes t b n
+bytes-ext : (s t : List ℕ) (a b n : ℕ) → ((x : ℕ) → x < n → getD s (a + x) 0 ≡ getD t (b + x) 0) → bytes s a n ≡ bytes t b n
 unfolding bytes
 bytes-ext s t a b zero h = refl
 bytes-ext s t a b (suc n) h =
@@ -76,7 +88,7 @@ module _ (y : Layout) (s : List ℕ) where
   coreRecords = drop (10 * taskCount s) (drop 8 s)
 
   unfoldable task : ℕ → List ℕ
-  task i = taskWith records (y .from i) (y .fourth i)
+  task i = taskWith records (y .from i) (y .byte4 i)
 
   unfoldable core : ℕ → List ℕ
   core k = coreWith coreRecords k (y .count k)
@@ -150,7 +162,7 @@ module _ (y : Layout) (s : List ℕ) where
 
     task-other : (b : ℕ) → b < 10 → (b ≡ 4 → ⊥) → getD (drop 8 (laidOut y s)) (10 * i + b) 0 ≡ getD records (10 * from + b) 0
     unfolding task taskWith
-    task-other b q n = task-byte b q ∙ with-other records (10 * from) 4 (10 * from + 5) 5 (y .fourth i) (omega arith) b q n
+    task-other b q n = task-byte b q ∙ with-other records (10 * from) 4 (10 * from + 5) 5 (y .byte4 i) (omega arith) b q n
 
     task-word : (x z b : ℕ) → x ≡ 10 * i + b → z ≡ 10 * from + b → b + 1 < 10 → (b ≡ 4 → ⊥) → (b + 1 ≡ 4 → ⊥) → word (drop 8 (laidOut y s)) x ≡ word records z
     unfolding word
@@ -165,9 +177,9 @@ module _ (y : Layout) (s : List ℕ) where
     pub laid-budget : budgetAt (drop 8 (laidOut y s)) i ≡ budgetAt records from
     laid-budget = task-word (10 * i + 2) (10 * from + 2) 2 refl refl (omega arith) (λ e. omega arith) (λ e. omega arith)
 
-    pub laid-fourth : numberAt (drop 8 (laidOut y s)) i ≡ y .fourth i
+    pub laid-byte4 : numberAt (drop 8 (laidOut y s)) i ≡ y .byte4 i
     unfolding task taskWith
-    laid-fourth = task-byte 4 (omega arith) ∙ with-byte records (10 * from) 4 (10 * from + 5) 5 (y .fourth i) (omega arith)
+    laid-byte4 = task-byte 4 (omega arith) ∙ with-byte records (10 * from) 4 (10 * from + 5) 5 (y .byte4 i) (omega arith)
 
     pub laid-task-spare : getD (drop 8 (laidOut y s)) (10 * i + 5) 0 ≡ getD records (10 * from + 5) 0
     laid-task-spare = task-other 5 (omega arith) (λ e. omega arith)

@@ -18,7 +18,8 @@ use Rattle.fit.proofs.Sorting.{ordered-length}
 use Rattle.fit.proofs.Laying.{over-next, length-over}
 use Rattle.views.proofs.Grouping.{grouping-short}
 use Rattle.mover.specs.Moved.{bytes}
-use Rattle.mover.specs.Steps.{groupedBy, Planned}
+use Rattle.mover.specs.Steps.{groupedBy, Arranged}
+use Rattle.mover.proofs.Fields.{bytes-take}
 
 -- an array that nothing is written to
 unfoldable pub blank : List ℕ
@@ -37,18 +38,6 @@ over-zeros l i = past l (length l) i
     past [] m i = getD-drop m (replicate 64 0) i 0 ∙ zeros 64 (m + i)
     past (x ∷ l) m zero = refl
     past (x ∷ l) m (suc i) = past l m i
-
--- the first n bytes of a list
-bytes-behind : (x : ℕ) (l : List ℕ) (a n : ℕ) → bytes (x ∷ l) (suc a) n ≡ bytes l a n
-unfolding bytes
-bytes-behind x l a zero = refl
-bytes-behind x l a (suc n) = ap (λ (t : List ℕ). getD l a 0 ∷ t) (bytes-behind x l (suc a) n)
-
-bytes-front : (l : List ℕ) (n : ℕ) → n ≤ length l → bytes l 0 n ≡ take n l
-unfolding bytes
-bytes-front l zero h = refl
-bytes-front [] (suc n) h = absurd (omega arith)
-bytes-front (x ∷ l) (suc n) h = ap (λ (t : List ℕ). x ∷ t) (bytes-behind x l 0 n ∙ bytes-front l n (omega arith))
 
 -- the tasks of the first k cores, and how many each has
 pub record Gathered (p core : ℕ → ℕ) (n k at : ℕ) (from counts : List ℕ) : Type 0 where
@@ -90,7 +79,7 @@ module _ (p core : ℕ → ℕ) (n k a : ℕ) (from counts : List ℕ) (o : Orde
   unfolding all
   laid w ys z e =
       rw z
-      (over-next (all k) (order p core k n) blank from ys a (sym (d .place)) (omega (arith, d .room, blank-size)) (d .tasks) (rw (z, bytes-front (o .tasks) (o .count) (omega (arith, h .count, h .size)), h .tasks) at e)
+      (over-next (all k) (order p core k n) blank from ys a (sym (d .place)) (omega (arith, d .room, blank-size)) (d .tasks) (rw (z, bytes-take (o .tasks) 0 (o .count) (omega (arith, h .count, h .size)), h .tasks) at e)
       ∙ ap (λ (l : List ℕ). over l blank) (sym next))
 
   pub gather-turn : (c : ℕ) (ys : List ℕ) → k < c → c ≤ 8 → ys ≡ over (bytes (o .tasks) 0 (o .count)) (take (64 - a) (drop a from)) → Gathered p core n (k + 1) (a + o .count) (putMid a (64 - a) from ys) (set counts k (o .count))
@@ -111,8 +100,8 @@ module _ (p core : ℕ → ℕ) (n k a : ℕ) (from counts : List ℕ) (o : Orde
       by j b (yes z) = rw z (getD-set-same counts k (o .count) 0 (omega (arith, d .cores)) ∙ own)
       by j b (no z) = getD-set-other counts k j (o .count) 0 z ∙ d .count j (lt-of-le-ne (omega arith) z)
 
-pub gather-end : (p core : ℕ → ℕ) (n m c k a : ℕ) (from counts : List ℕ) → k ≤ c → c ≤ k → Gathered p core n k a from counts → Planned (groupedBy p core n c) m c (record { version = 2; from = from; fourth = from; counts = counts })
-gather-end p core n m c k a from counts x y d = record { version = refl; from = λ i h. looked i; fourth = λ i h. looked i; count = λ j h. d .count j (omega arith) }
+pub gather-end : (p core : ℕ → ℕ) (n m c k a : ℕ) (from counts : List ℕ) → k ≤ c → c ≤ k → Gathered p core n k a from counts → Arranged (groupedBy p core n c) m c (record { version = 2; from = from; byte4 = from; counts = counts })
+gather-end p core n m c k a from counts x y d = record { version = refl; from = λ i h. looked i; byte4 = λ i h. looked i; count = λ j h. d .count j (omega arith) }
   where
     looked : (i : ℕ) → getD from i 0 ≡ at (joined (λ j. order p core j n) (numbers 0 c)) i
     looked i =

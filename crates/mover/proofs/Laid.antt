@@ -17,10 +17,10 @@ use Rattle.fit.proofs.Lists.{joined-next}
 use Rattle.fit.proofs.Laying.{records-ext}
 use Rattle.checker.specs.Accepted.{Framed}
 use Rattle.mover.specs.Moved.{bytes, headerWith, taskWith, coreWith, Layout, laidOut}
-use Rattle.mover.proofs.Fields.{laid-tasks, laid-cores, laid-task, laid-core}
+use Rattle.mover.proofs.Fields.{bytes-take, laid-tasks, laid-cores, laid-task, laid-core}
 
 -- layouts that agree on all tasks and cores
-pub laid-ext : (y z : Layout) (s : List ℕ) → y .version ≡ z .version → ((i : ℕ) → i < taskCount s → y .from i ≡ z .from i) → ((i : ℕ) → i < taskCount s → y .fourth i ≡ z .fourth i) → ((k : ℕ) → k < coreCount s → y .count k ≡ z .count k) → laidOut y s ≡ laidOut z s
+pub laid-ext : (y z : Layout) (s : List ℕ) → y .version ≡ z .version → ((i : ℕ) → i < taskCount s → y .from i ≡ z .from i) → ((i : ℕ) → i < taskCount s → y .byte4 i ≡ z .byte4 i) → ((k : ℕ) → k < coreCount s → y .count k ≡ z .count k) → laidOut y s ≡ laidOut z s
 unfolding laidOut
 laid-ext y z s ev ef ex ec =
     ap₂ _++_ (ap (headerWith s) ev)
@@ -30,7 +30,7 @@ laid-ext y z s ev ef ex ec =
 
 -- one layout after another
 abbrev partsOf : Layout → List ℕ → ℕ → ℕ → List ℕ
-partsOf z m n c = joined (λ i. taskWith (drop 8 m) (z .from i) (z .fourth i)) (numbers 0 n) ++ joined (λ k. coreWith (drop (10 * n) (drop 8 m)) k (z .count k)) (numbers 0 c)
+partsOf z m n c = joined (λ i. taskWith (drop 8 m) (z .from i) (z .byte4 i)) (numbers 0 n) ++ joined (λ k. coreWith (drop (10 * n) (drop 8 m)) k (z .count k)) (numbers 0 c)
 
 laid-parts : (z : Layout) (m : List ℕ) → laidOut z m ≡ headerWith m (z .version) ++ partsOf z m (taskCount m) (coreCount m)
 unfolding laidOut
@@ -41,7 +41,7 @@ unfolding laidOut headerWith bytes
 laid-header y s v = refl
 
 abbrev after : Layout → Layout → Layout
-after y z = record { version = z .version; from = λ i. y .from (z .from i); fourth = z .fourth; count = z .count }
+after y z = record { version = z .version; from = λ i. y .from (z .from i); byte4 = z .byte4; count = z .count }
 
 pub laid-twice : (y z : Layout) (s : List ℕ) → ((i : ℕ) → i < taskCount s → z .from i < taskCount s) → laidOut z (laidOut y s) ≡ laidOut (after y z) s
 laid-twice y z s inside =
@@ -49,23 +49,11 @@ laid-twice y z s inside =
     ∙ ap₂ _++_ (laid-header y s (z .version))
     (ap₂ (partsOf z (laidOut y s)) (laid-tasks y s) (laid-cores y s)
     ∙ ap₂ _++_
-    (records-ext _ _ 0 (taskCount s) (λ i a h. laid-task y s (z .from i) (inside i (omega arith)) (z .fourth i)))
+    (records-ext _ _ 0 (taskCount s) (λ i a h. laid-task y s (z .from i) (inside i (omega arith)) (z .byte4 i)))
     (records-ext _ _ 0 (coreCount s) (λ k a h. laid-core y s k (omega arith) (z .count k))))
     ∙ sym (laid-parts (after y z) s)
 
--- bytes that are all of a part
-bytes-take : (s : List ℕ) (a n : ℕ) → a + n ≤ length s → bytes s a n ≡ take n (drop a s)
-unfolding bytes
-bytes-take s a zero h = refl
-bytes-take s a (suc n) h =
-    let first : drop a s ≡ getD s a 0 ∷ drop (suc a) s = drop-cons a s (omega arith) in
-    rw first (ap (λ (l : List ℕ). getD s a 0 ∷ l) (bytes-take s (suc a) n (omega arith)))
-  where
-    drop-cons : (a : ℕ) (s : List ℕ) → a < length s → drop a s ≡ getD s a 0 ∷ drop (suc a) s
-    drop-cons a [] h = absurd (omega arith)
-    drop-cons zero (x ∷ s) h = refl
-    drop-cons (suc a) (x ∷ s) h = drop-cons a s (omega arith)
-
+-- bytes with one of them apart
 bytes-split : (s : List ℕ) (a p q c d : ℕ) → c ≡ a + p → d ≡ c + 1 → bytes s a (p + suc q) ≡ bytes s a p ++ (getD s c 0 ∷ bytes s d q)
 unfolding bytes
 bytes-split s a zero q c d e f =
@@ -91,7 +79,7 @@ all-records l w (suc n) h =
 -- A sheet that is laid out with its own version, order and bytes is the same.
 module _ (s : List ℕ) (h : Framed s) where
   abbrev own : Layout
-  own = record { version = version s; from = λ i. i; fourth = numberAt (drop 8 s); count = countAt (drop (10 * taskCount s) (drop 8 s)) }
+  own = record { version = version s; from = λ i. i; byte4 = numberAt (drop 8 s); count = countAt (drop (10 * taskCount s) (drop 8 s)) }
 
   own-version : (version s ≡ 1) ⊎ (version s ≡ 2) → (version s ≡ getD s 3 0) × (_≡_ {A = ℕ} 0 (getD s 4 0))
   unfolding word

@@ -1,8 +1,8 @@
+pub mod Fields
 pub mod Records
 pub mod Writing
 pub mod Gathering
-pub mod Planning
-pub mod Fields
+pub mod Arranging
 pub mod Agreeing
 pub mod Accepting
 pub mod Laid

@@ -18,14 +18,14 @@ use Rattle.checker.proofs.Acceptance.{accepted-exactly}
 use Rattle.mover.specs.declared.Moved.the-variants.{Written, Refused}
 use Rattle.mover.specs.Moved.{version1, version2, moved}
 use Rattle.mover.specs.Meaning.{Moves, Moving}
-use Rattle.mover.proofs.Agreeing.{version1-single, version2-grouped, version2-agree}
+use Rattle.mover.proofs.Agreeing.{version1-ungrouped, version2-grouped, version2-agree}
 use Rattle.mover.proofs.Accepting.{to-version1, to-version2, version1-counts}
-use Rattle.mover.proofs.Trips.{version2-counts, new-agree, from-single, from-grouped}
+use Rattle.mover.proofs.Trips.{version2-counts, new-agree, from-ungrouped, from-grouped}
 
 -- the sheet of the other version, for each version
-moved-single : (s : List ℕ) → isGrouped s ≡ false → moved s ≡ version2 s
+moved-ungrouped : (s : List ℕ) → isGrouped s ≡ false → moved s ≡ version2 s
 unfolding moved
-moved-single s e = rw e
+moved-ungrouped s e = rw e
 
 moved-grouped : (s : List ℕ) → isGrouped s ≡ true → moved s ≡ version1 s
 unfolding moved
@@ -44,15 +44,15 @@ moves s n c v = by (isGrouped s) refl
     by : (b : Bool) → isGrouped s ≡ b → Moves s (moved s) n c
     by true g = rw (moved-grouped s g) (record {
       accepts = accepted-exactly (version1 s) n c .1 (to-version1 s g (a .order) a, counts .0 ∙ sym (version1-counts s .0), counts .1 ∙ sym (version1-counts s .1));
-      other = version1-single s ∙ ap not (sym g);
+      other = version1-ungrouped s ∙ ap not (sym g);
       same = new-agree s g a;
-      back = moved-single (version1 s) (version1-single s) ∙ from-grouped s g a;
+      back = moved-ungrouped (version1 s) (version1-ungrouped s) ∙ from-grouped s g a;
     })
-    by false g = rw (moved-single s g) (record {
+    by false g = rw (moved-ungrouped s g) (record {
       accepts = accepted-exactly (version2 s) n c .1 (to-version2 s g a, counts .0 ∙ sym (version2-counts s .0), counts .1 ∙ sym (version2-counts s .1));
       other = version2-grouped s ∙ ap not (sym g);
       same = version2-agree s g (a .fitting .tasks .core);
-      back = moved-grouped (version2 s) (version2-grouped s) ∙ from-single s g a;
+      back = moved-grouped (version2 s) (version2-grouped s) ∙ from-ungrouped s g a;
     })
 
 -- Moving an accepted sheet twice gives the same bytes.

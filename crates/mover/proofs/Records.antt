@@ -63,19 +63,19 @@ pub header-size : (s : List ℕ) (v : ℕ) → length (headerWith s v) ≡ 8
 unfolding bytes headerWith
 header-size s v = refl
 
-pub task-size : (s from fourth : List ℕ) (i : ℕ) → length (taskBytes s from fourth i) ≡ 10
+pub task-size : (s from byte4 : List ℕ) (i : ℕ) → length (taskBytes s from byte4 i) ≡ 10
 unfolding bytes taskWith taskBytes
-task-size s from fourth i = refl
+task-size s from byte4 i = refl
 
 pub core-size : (s counts : List ℕ) (k : ℕ) → length (coreBytes s counts k) ≡ 8
 unfolding bytes coreWith coreBytes
 core-size s counts k = refl
 
 -- one more task record, and one more core record
-module _ (s from fourth : List ℕ) (n i a : ℕ) (before xs : List ℕ) (h : i < n) (room : 10 * n ≤ length before) (d : Laid (taskBytes s from fourth) 10 before i a xs) where
-  pub task-turn : (ys : List ℕ) → ys ≡ over (taskWith s (getD from i 0) (getD fourth i 0)) (take (length xs - a) (drop a xs)) → Laid (taskBytes s from fourth) 10 before (i + 1) (a + 10) (putMid a (length xs - a) xs ys)
+module _ (s from byte4 : List ℕ) (n i a : ℕ) (before xs : List ℕ) (h : i < n) (room : 10 * n ≤ length before) (d : Laid (taskBytes s from byte4) 10 before i a xs) where
+  pub task-turn : (ys : List ℕ) → ys ≡ over (taskWith s (getD from i 0) (getD byte4 i 0)) (take (length xs - a) (drop a xs)) → Laid (taskBytes s from byte4) 10 before (i + 1) (a + 10) (putMid a (length xs - a) xs ys)
   unfolding taskBytes
-  task-turn ys q = lay-turn (taskBytes s from fourth) 10 (task-size s from fourth) n i a before xs ys h room d q
+  task-turn ys q = lay-turn (taskBytes s from byte4) 10 (task-size s from byte4) n i a before xs ys h room d q
 
 module _ (s counts : List ℕ) (c k a : ℕ) (before xs : List ℕ) (h : k < c) (room : 8 * c ≤ length before) (d : Laid (coreBytes s counts) 8 before k a xs) where
   pub core-turn : (ys : List ℕ) → ys ≡ over (coreWith s k (getD counts k 0)) (take (length xs - a) (drop a xs)) → Laid (coreBytes s counts) 8 before (k + 1) (a + 8) (putMid a (length xs - a) xs ys)

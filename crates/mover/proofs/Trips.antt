@@ -4,7 +4,7 @@ use Prim.Native.Nat.{ℕ, zero, suc, _+_, _*_, _<_}
 use mathlib.Core.Path.{_≡_, refl, sym, ap, subst, _∙_}
 use mathlib.Core.Logic.{_⊎_, inl, inr}
 use mathlib.Core.Bool.{Bool, true, false, true≢false}
-use mathlib.Core.List.{List, [], _∷_, _++_, map}
+use mathlib.Core.List.{List, [], _∷_, _++_, map, map-append}
 use native.Mathlib.Omega.{arith}
 use borrow.Author.Tests.{eq-eqb, eqb-true}
 use lib.ListN.{length, getD, drop, length-map}
@@ -22,7 +22,7 @@ use Rattle.checker.specs.Accepted.{OrderKept, Acceptable}
 use Rattle.checker.proofs.Views.{views-renamed}
 use Rattle.mover.specs.Moved.{laidOut, grouping, layout1, layout2, version1, version2}
 use Rattle.mover.proofs.Fields.{laid-tasks, laid-cores}
-use Rattle.mover.proofs.Agreeing.{version1-single, version1-agree, single-figures, version2-grouped, version2-order, version2-agree, version2-position, grouping-below}
+use Rattle.mover.proofs.Agreeing.{version1-ungrouped, version1-agree, ungrouped-figures, version2-grouped, version2-order, version2-agree, version2-position, grouping-below}
 use Rattle.mover.proofs.Accepting.{core-part, inside, own, to-version1, version1-counts}
 use Rattle.mover.proofs.Laid.{laid-ext, laid-twice, laid-own}
 
@@ -44,10 +44,6 @@ joined-map : (g : ℕ → ℕ) (f : ℕ → List ℕ) (l : List ℕ) → joined 
 unfolding joined
 joined-map g f [] = refl
 joined-map g f (k ∷ l) = ap (λ (m : List ℕ). map g (f k) ++ m) (joined-map g f l) ∙ sym (map-append g (f k) (joined f l))
-  where
-    map-append : (g : ℕ → ℕ) (l m : List ℕ) → map g (l ++ m) ≡ map g l ++ map g m
-    map-append g [] m = refl
-    map-append g (x ∷ l) m = ap (λ (t : List ℕ). g x ∷ t) (map-append g l m)
 
 map-number : (g : ℕ → ℕ) (a n j : ℕ) → j < n → getD (map g (numbers a n)) j 0 ≡ g (a + j)
 unfolding numbers
@@ -77,27 +73,27 @@ module _ (n c : ℕ) (records : List ℕ) where
   grouped-all false e o = absurd (true≢false (sym e))
 
 -- from version 1 and back
-module _ (s : List ℕ) (single : isGrouped s ≡ false) (h : Acceptable s) where
+module _ (s : List ℕ) (ungrouped : isGrouped s ≡ false) (h : Acceptable s) where
   placed : (i : ℕ) → i < taskCount s → byPosition s .core i < coreCount s
   placed = h .fitting .tasks .core
 
   own-core : (i : ℕ) → figures s .core i ≡ numberAt (drop 8 s) i
-  own-core i = rw single
+  own-core i = rw ungrouped
 
   own-version : (version s ≡ 1) ⊎ (version s ≡ 2) → 1 ≡ version s
   own-version (inl e) = sym e
-  own-version (inr e) = absurd (true≢false (sym (eq-eqb (version s) 2 e) ∙ single))
+  own-version (inr e) = absurd (true≢false (sym (eq-eqb (version s) 2 e) ∙ ungrouped))
 
-  pub from-single : version1 (version2 s) ≡ s
-  from-single =
+  pub from-ungrouped : version1 (version2 s) ≡ s
+  from-ungrouped =
       trip
-      ∙ laid-ext _ _ s (own-version (h .frame .version)) (λ i b. version2-position s single placed i b) (λ i b. version2-agree s single placed .core i b ∙ own-core i) (λ k b. sym (sym (core-part s k 2) ∙ h .spares .cores k b .0 single))
+      ∙ laid-ext _ _ s (own-version (h .frame .version)) (λ i b. version2-position s ungrouped placed i b) (λ i b. version2-agree s ungrouped placed .core i b ∙ own-core i) (λ k b. sym (sym (core-part s k 2) ∙ h .spares .cores k b .0 ungrouped))
       ∙ laid-own s (h .frame)
     where
       there : (i : ℕ) → i < taskCount s → layout1 (version2 s) .from i < taskCount s
-      there i b = subst (λ n. positionOfNumber (isGrouped (version2 s)) (taskCount (version2 s)) (drop 8 (version2 s)) i < n) (version2-counts s .0) (inside (version2 s) (version2-grouped s) (version2-order s single placed) i (subst (λ n. i < n) (sym (version2-counts s .0)) b))
+      there i b = subst (λ n. positionOfNumber (isGrouped (version2 s)) (taskCount (version2 s)) (drop 8 (version2 s)) i < n) (version2-counts s .0) (inside (version2 s) (version2-grouped s) (version2-order s ungrouped placed) i (subst (λ n. i < n) (sym (version2-counts s .0)) b))
 
-      trip : version1 (version2 s) ≡ laidOut (record { version = 1; from = λ i. layout2 s .from (layout1 (version2 s) .from i); fourth = layout1 (version2 s) .fourth; count = λ k. 0 }) s
+      trip : version1 (version2 s) ≡ laidOut (record { version = 1; from = λ i. layout2 s .from (layout1 (version2 s) .from i); byte4 = layout1 (version2 s) .byte4; count = λ k. 0 }) s
       trip = version1-of (version2 s) ∙ ap (laidOut (layout1 (version2 s))) (version2-of s) ∙ laid-twice (layout2 s) (layout1 (version2 s)) s there
 
 -- from version 2 and back
@@ -106,7 +102,7 @@ module _ (s : List ℕ) (g : isGrouped s ≡ true) (h : Acceptable s) where
   new = to-version1 s g (h .order) h
 
   pub new-agree : Agree (figures s) (figures (version1 s))
-  new-agree = subst (Agree (figures s)) (sym (single-figures (version1 s) (version1-single s))) (version1-agree s)
+  new-agree = subst (Agree (figures s)) (sym (ungrouped-figures (version1 s) (version1-ungrouped s))) (version1-agree s)
 
   new-order : (k : ℕ) → orderOn (figures (version1 s)) k ≡ orderOn (figures s) k
   new-order = agree-order (figures s) (figures (version1 s)) new-agree
@@ -135,7 +131,7 @@ module _ (s : List ℕ) (g : isGrouped s ≡ true) (h : Acceptable s) where
       ∙ laid-own s (h .frame)
     where
       there : (j : ℕ) → j < taskCount s → layout2 (version1 s) .from j < taskCount s
-      there j b = subst (λ n. layout2 (version1 s) .from j < n) (version1-counts s .0) (grouping-below (version1 s) (version1-single s) (new .fitting .tasks .core) j (subst (λ n. j < n) (sym (version1-counts s .0)) b))
+      there j b = subst (λ n. layout2 (version1 s) .from j < n) (version1-counts s .0) (grouping-below (version1 s) (version1-ungrouped s) (new .fitting .tasks .core) j (subst (λ n. j < n) (sym (version1-counts s .0)) b))
 
-      trip : version2 (version1 s) ≡ laidOut (record { version = 2; from = λ i. layout1 s .from (layout2 (version1 s) .from i); fourth = layout2 (version1 s) .fourth; count = layout2 (version1 s) .count }) s
+      trip : version2 (version1 s) ≡ laidOut (record { version = 2; from = λ i. layout1 s .from (layout2 (version1 s) .from i); byte4 = layout2 (version1 s) .byte4; count = layout2 (version1 s) .count }) s
       trip = version2-of (version1 s) ∙ ap (laidOut (layout2 (version1 s))) (version1-of s) ∙ laid-twice (layout1 s) (layout2 (version1 s)) s there

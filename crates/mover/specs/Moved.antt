@@ -30,14 +30,14 @@ coreWith cores k x = bytes cores (8 * k) 2 ++ (x ∷ bytes cores (8 * k + 3) 5)
 pub record Layout : Type 0 where
   pub version : ℕ
   pub from : ℕ → ℕ
-  pub fourth : ℕ → ℕ
+  pub byte4 : ℕ → ℕ
   pub count : ℕ → ℕ
 
 -- the sheet so laid out
 unfoldable pub laidOut : Layout → List ℕ → List ℕ
 laidOut y s =
     headerWith s (y .version)
-    ++ (joined (λ i. taskWith (drop 8 s) (y .from i) (y .fourth i)) (numbers 0 (taskCount s))
+    ++ (joined (λ i. taskWith (drop 8 s) (y .from i) (y .byte4 i)) (numbers 0 (taskCount s))
     ++ joined (λ k. coreWith (drop (10 * taskCount s) (drop 8 s)) k (y .count k)) (numbers 0 (coreCount s)))
 
 -- the tasks core by core, those of each core in priority order
@@ -46,12 +46,13 @@ grouping f = joined (orderOn f) (numbers 0 (f .cores))
 
 -- version 1: the task records by number, byte 4 the core; the task counts are zeros
 abbrev pub layout1 : List ℕ → Layout
-layout1 s = record { version = 1; from = positionOfNumber (isGrouped s) (taskCount s) (drop 8 s); fourth = figures s .core; count = λ k. 0 }
+layout1 s = record { version = 1; from = positionOfNumber (isGrouped s) (taskCount s) (drop 8 s); byte4 = figures s .core; count = λ k. 0 }
 
 -- version 2: the task records by core and then by priority, byte 4 the old number; the task counts
 abbrev pub layout2 : List ℕ → Layout
-layout2 s = record { version = 2; from = at (grouping (figures s)); fourth = at (grouping (figures s)); count = λ k. length (orderOn (figures s) k) }
+layout2 s = record { version = 2; from = at (grouping (figures s)); byte4 = at (grouping (figures s)); count = λ k. length (orderOn (figures s) k) }
 
+-- the version 1 sheet and the version 2 sheet with the tasks, cores and spare bytes of a sheet
 unfoldable pub version1 : List ℕ → List ℕ
 version1 s = laidOut (layout1 s) s
 

@@ -6,12 +6,12 @@ use lib.ListN.{length, getD}
 use Rattle.sheet.specs.Records.{taskCount, coreCount}
 use Rattle.fit.specs.Lists.{numbers, at, joined}
 use Rattle.fit.specs.Priority.{order}
-use Rattle.mover.specs.declared.Plan.{Plan}
+use Rattle.mover.specs.declared.Arrangement.{Arrangement}
 use Rattle.mover.specs.Moved.{taskWith, coreWith, Layout}
 
 -- the task record of new position i, and the record of core k, by what stands in arrays
-unfoldable pub taskBytes : (tasks from fourth : List ℕ) → ℕ → List ℕ
-taskBytes tasks from fourth i = taskWith tasks (getD from i 0) (getD fourth i 0)
+unfoldable pub taskBytes : (tasks from byte4 : List ℕ) → ℕ → List ℕ
+taskBytes tasks from byte4 i = taskWith tasks (getD from i 0) (getD byte4 i 0)
 
 unfoldable pub coreBytes : (cores counts : List ℕ) → ℕ → List ℕ
 coreBytes cores counts k = coreWith cores k (getD counts k 0)
@@ -32,11 +32,11 @@ found list places i = getD list (getD places i 0) 0
 abbrev pub groupedBy : (p core : ℕ → ℕ) → ℕ → ℕ → Layout
 groupedBy p core n c =
     let from : ℕ → ℕ = at (joined (λ k. order p core k n) (numbers 0 c)) in
-    record { version = 2; from = from; fourth = from; count = λ k. length (order p core k n) }
+    record { version = 2; from = from; byte4 = from; count = λ k. length (order p core k n) }
 
 -- a layout of n tasks and c cores, in arrays
-pub record Planned (y : Layout) (n c : ℕ) (a : Plan) : Type 0 where
+pub record Arranged (y : Layout) (n c : ℕ) (a : Arrangement) : Type 0 where
   pub version : a .version ≡ y .version
   pub from : (i : ℕ) → i < n → getD (a .from) i 0 ≡ y .from i
-  pub fourth : (i : ℕ) → i < n → getD (a .fourth) i 0 ≡ y .fourth i
+  pub byte4 : (i : ℕ) → i < n → getD (a .byte4) i 0 ≡ y .byte4 i
   pub count : (k : ℕ) → k < c → getD (a .counts) k 0 ≡ y .count k

@@ -11,7 +11,7 @@ ghost use Rattle.checker.specs.Verdict.{verdict};
 ghost use Rattle.mover.specs.Moved.{bytes, headerWith, taskWith, coreWith, Layout, layout1, layout2, laidOut, moved};
 ghost use Rattle.mover.specs.Answers.{moveAnswer, moveOutput, answerOf};
 ghost use Rattle.mover.specs.Meaning.{Moving};
-ghost use Rattle.mover.specs.Steps.{taskBytes, coreBytes, Sized, found, groupedBy, Planned};
+ghost use Rattle.mover.specs.Steps.{taskBytes, coreBytes, Sized, found, groupedBy, Arranged};
 use checker::Verdict;
 use sheet::Refusal;
 
@@ -22,10 +22,10 @@ pub enum Moved {
 }
 
 // How a sheet is laid out anew: for each new position the old one and byte 4, for each core byte 2.
-struct Plan {
+struct Arrangement {
     version: u8,
     from: [u8; 64],
-    fourth: [u8; 64],
+    byte4: [u8; 64],
     counts: [u8; 8],
 }
 
@@ -71,15 +71,15 @@ fn put_core(part: &mut [u8], cores: &[u8], k: u8, x: u8)
 }
 
 // The task records. `part` is the output from byte 8.
-fn put_tasks(part: &mut [u8], tasks: &[u8], n: u8, from: [u8; 64], fourth: [u8; 64])
+fn put_tasks(part: &mut [u8], tasks: &[u8], n: u8, from: [u8; 64], byte4: [u8; 64])
     requires { ⌜ (n ≤ 64) × (10 * n ≤ length (now part)) ⌝ }
-    ensures { λ _. ⌜ now (part .exit) ≡ over (joined (taskBytes (now (tasks .entry)) from fourth) (numbers 0 n)) (now (part .entry)) ⌝ }
+    ensures { λ _. ⌜ now (part .exit) ≡ over (joined (taskBytes (now (tasks .entry)) from byte4) (numbers 0 n)) (now (part .entry)) ⌝ }
 {
     let mut at = 0;
     let mut i = 0;
     while i < n {
         let j = i as usize;
-        put_task(&mut part[at..], tasks, from[j], fourth[j]);
+        put_task(&mut part[at..], tasks, from[j], byte4[j]);
         at += 10;
         i += 1;
     }
@@ -99,18 +99,18 @@ fn put_cores(part: &mut [u8], cores: &[u8], c: u8, counts: [u8; 8])
     }
 }
 
-// Writes a sheet of n tasks and c cores as it is planned, and returns its length.
-fn write_sheet(out: &mut [u8], sheet: &[u8], n: u8, c: u8, plan: Plan) -> u16
+// Writes a sheet of n tasks and c cores as it is arranged, and returns its length.
+fn write_sheet(out: &mut [u8], sheet: &[u8], n: u8, c: u8, arrangement: Arrangement) -> u16
     requires { ⌜ (712 ≤ length (now out)) × Sized (now sheet) n c ⌝ }
-    ensures { λ r. ⌜ ((y : Layout) → Planned y n c plan → (r ≡ length (laidOut y (now (sheet .entry)))) × (now (out .exit) ≡ over (laidOut y (now (sheet .entry))) (now (out .entry)))) ⌝ }
+    ensures { λ r. ⌜ ((y : Layout) → Arranged y n c arrangement → (r ≡ length (laidOut y (now (sheet .entry)))) × (now (out .exit) ≡ over (laidOut y (now (sheet .entry))) (now (out .entry)))) ⌝ }
 {
-    let version = plan.version;
-    let from = plan.from;
-    let fourth = plan.fourth;
-    let counts = plan.counts;
+    let version = arrangement.version;
+    let from = arrangement.from;
+    let byte4 = arrangement.byte4;
+    let counts = arrangement.counts;
     let at = 8 + 10 * (n as usize);
     put_header(out, sheet, version);
-    put_tasks(&mut out[8..], &sheet[8..], n, from, fourth);
+    put_tasks(&mut out[8..], &sheet[8..], n, from, byte4);
     put_cores(&mut out[at..], &sheet[at..], c, counts);
     (at + 8 * (c as usize)) as u16
 }
@@ -131,9 +131,9 @@ fn look_up(list: &[u8], places: &[u8], n: u8) -> [u8; 64]
 }
 
 // Tasks 0 to n - 1 with these periods and cores, core by core and in priority order on each; of more than 64 the first 64.
-fn core_by_core(periods: &[u16], on: &[u8], n: u8, c: u8) -> Plan
+fn core_by_core(periods: &[u16], on: &[u8], n: u8, c: u8) -> Arrangement
     requires { ⌜ c ≤ 8 ⌝ }
-    ensures { λ r. ⌜ Planned (groupedBy (at (now (periods .entry))) (at (now (on .entry))) (min n 64) c) n c r ⌝ }
+    ensures { λ r. ⌜ Arranged (groupedBy (at (now (periods .entry))) (at (now (on .entry))) (min n 64) c) n c r ⌝ }
 {
     let mut from = [0u8; 64];
     let mut counts = [0u8; 8];
@@ -148,37 +148,37 @@ fn core_by_core(periods: &[u16], on: &[u8], n: u8, c: u8) -> Plan
         at += count;
         k += 1;
     }
-    Plan {
+    Arrangement {
         version: 2,
         from,
-        fourth: from,
+        byte4: from,
         counts,
     }
 }
 
 // A version 2 sheet laid out by task number, which is version 1.
-fn by_number(sheet: &[u8], n: u8, c: u8) -> Plan
+fn by_number(sheet: &[u8], n: u8, c: u8) -> Arrangement
     requires { ⌜ Sized (now sheet) n c × (isGrouped (now sheet) ≡ true) ⌝ }
-    ensures { λ r. ⌜ Planned (layout1 (now (sheet .entry))) n c r ⌝ }
+    ensures { λ r. ⌜ Arranged (layout1 (now (sheet .entry))) n c r ⌝ }
 {
     let tasks = &sheet[8..];
     let at = 10 * (n as usize);
     let cores = &tasks[at..];
     let from = views::positions_of(true, tasks, n);
     let on = views::cores_of(true, tasks, cores, n, c);
-    let fourth = look_up(&on, &from, n);
-    Plan {
+    let byte4 = look_up(&on, &from, n);
+    Arrangement {
         version: 1,
         from,
-        fourth,
+        byte4,
         counts: [0; 8],
     }
 }
 
 // A version 1 sheet laid out core by core, which is version 2.
-fn by_core(sheet: &[u8], n: u8, c: u8) -> Plan
+fn by_core(sheet: &[u8], n: u8, c: u8) -> Arrangement
     requires { ⌜ Sized (now sheet) n c × (isGrouped (now sheet) ≡ false) ⌝ }
-    ensures { λ r. ⌜ Planned (layout2 (now (sheet .entry))) n c r ⌝ }
+    ensures { λ r. ⌜ Arranged (layout2 (now (sheet .entry))) n c r ⌝ }
 {
     let tasks = &sheet[8..];
     let at = 10 * (n as usize);
@@ -193,11 +193,11 @@ fn write_other(out: &mut [u8], sheet: &[u8], n: u8, c: u8) -> u16
     ensures { λ r. ⌜ (r ≡ length (moved (now (sheet .entry)))) × (now (out .exit) ≡ over (moved (now (sheet .entry))) (now (out .entry))) ⌝ }
 {
     if sheet::is_grouped(sheet) {
-        let plan = by_number(sheet, n, c);
-        return write_sheet(out, sheet, n, c, plan);
+        let arrangement = by_number(sheet, n, c);
+        return write_sheet(out, sheet, n, c, arrangement);
     }
-    let plan = by_core(sheet, n, c);
-    write_sheet(out, sheet, n, c, plan)
+    let arrangement = by_core(sheet, n, c);
+    write_sheet(out, sheet, n, c, arrangement)
 }
 
 // Writes a sheet of version 1 as one of version 2, and back, into a lent buffer of at least 712 bytes. The bytes past it stay as they were.

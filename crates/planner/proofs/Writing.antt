@@ -8,7 +8,7 @@ use native.Mathlib.Omega.{arith}
 use lib.ListN.{length, take, drop, getD, length-append}
 use borrow.Rule.Slice.PartMut.{putMid}
 use Rattle.fit.specs.Lists.{numbers, joined, over}
-use Rattle.fit.proofs.Laying.{over-next, records-length, records-ext, Laid, lay-turn}
+use Rattle.fit.proofs.Laying.{parts-written, records-length, records-ext, Laid, lay-turn}
 use Rattle.jobs.specs.Jobs.{jobCount, jobPeriod, jobBudget}
 use Rattle.planner.specs.declared.Assignment.{Assignment}
 use Rattle.planner.specs.declared.Rates.{Rates}
@@ -66,6 +66,5 @@ module _ (l : List ℕ) (a : Assignment) (r : Rates) (n : ℕ) (q : n ≡ jobCou
   pub sheet-written : (out order head ys zs : List ℕ) → 712 ≤ length out → Prioritized l order → Assigned l a → head ≡ over (header n (a .cores)) out → ys ≡ over (joined (taskBytes l (a .core) (r .factors)) (numbers 0 n)) (take (length head - 8) (drop 8 head)) → zs ≡ over (joined (coreBytes (r .pivots) (r .divisors)) (numbers 0 (a .cores))) (take (length (putMid 8 (length head - 8) head ys) - (8 + 10 * n)) (drop (8 + 10 * n) (putMid 8 (length head - 8) head ys))) → putMid (8 + 10 * n) (length (putMid 8 (length head - 8) head ys) - (8 + 10 * n)) (putMid 8 (length head - 8) head ys) zs ≡ over (sheetOf (jobPeriod l) (jobBudget l) (jobCount l) a) out
   unfolding tasks cores header
   sheet-written out order head ys zs room few all h t c =
-      over-next (header n (a .cores) ++ tasks) cores out (putMid 8 (length head - 8) head ys) zs (8 + 10 * n) (simp length-append (omega (arith, tasks-size))) (omega (arith, few .few))
-      (over-next (header n (a .cores)) tasks out head ys 8 refl (omega arith) h t) c
-      ∙ ap (λ (s : List ℕ). over s out) (append-assoc (header n (a .cores)) tasks cores ∙ sheet-parts)
+      parts-written (header n (a .cores)) tasks cores out head ys zs (10 * n) refl tasks-size (omega (arith, few .few)) h t c
+      ∙ ap (λ (s : List ℕ). over s out) sheet-parts

@@ -26,7 +26,7 @@ unfoldable pub coreByCounts : (ℕ → ℕ) → ℕ → ℕ → ℕ
 coreByCounts count zero j = 0
 coreByCounts count (suc c) j = cond (leb (firstOf count (suc c)) j) (suc c) (coreByCounts count c j)
 
--- the position, among the first n, of the task with old number i
+-- the position of the task with old number i: the last of the first n that has it; 0 where none has
 unfoldable pub positionOf : (ℕ → ℕ) → ℕ → ℕ → ℕ
 positionOf number zero i = 0
 positionOf number (suc n) i = cond (eqb (number n) i) n (positionOf number n i)

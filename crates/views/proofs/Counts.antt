@@ -64,3 +64,14 @@ module _ (count : ℕ → ℕ) where
       let low = core-where c i (omega arith) in
       let high = core-where c j h in
       core-inside c (coreByCounts count c i) x (omega (arith, low .1)) (rw e (omega (arith, high .2))) (low .0)
+
+-- counts that agree give the same cores
+pub first-ext : (f g : ℕ → ℕ) (c : ℕ) → ((k : ℕ) → k < c → f k ≡ g k) → (k : ℕ) → k ≤ c → firstOf f k ≡ firstOf g k
+unfolding firstOf
+first-ext f g c h zero q = refl
+first-ext f g c h (suc k) q = rw (first-ext f g c h k (omega arith), h k q)
+
+pub core-ext : (f g : ℕ → ℕ) (c : ℕ) → ((k : ℕ) → k < c → f k ≡ g k) → (d j : ℕ) → d ≤ c → coreByCounts f d j ≡ coreByCounts g d j
+unfolding coreByCounts
+core-ext f g c h zero j q = refl
+core-ext f g c h (suc d) j q = rw (first-ext f g c h (suc d) q, core-ext f g c h d j (omega arith))

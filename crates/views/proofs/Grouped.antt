@@ -10,34 +10,11 @@ use lib.Dec.{ltb, eqb}
 use Rattle.sheet.specs.Views.{firstOf, coreByCounts}
 use Rattle.sheet.proofs.Ranges.{neither, both}
 use Rattle.fit.specs.Priority.{higher, Higher, Above}
+use Rattle.fit.proofs.Priority.{higher-true, true-higher, higher-trans}
 use Rattle.fit.proofs.Some.{some-none, none-some}
 use Rattle.views.specs.Order.{badNumbers, badCounts, fallsAt, badSequence, misordered, InOrder}
 use Rattle.views.proofs.Counts.{core-between}
 use Rattle.views.proofs.Once.{each-once, once-numbers}
-
--- priority as a test and as a proposition
-higher-true : (p i q j : ℕ) → higher p i q j ≡ true → Higher p i q j
-higher-true p i q j e = by (ltb p q) refl e
-  where
-    by : (b : Bool) → ltb p q ≡ b → (b || (eqb p q && ltb i j)) ≡ true → Higher p i q j
-    by true t e = inl (ltb-true p q t)
-    by false t e =
-        let w = both (eqb p q) (ltb i j) e in
-        inr (eqb-true p q (w .0), ltb-true i j (w .1))
-
-true-higher : (p i q j : ℕ) → Higher p i q j → higher p i q j ≡ true
-true-higher p i q j (inl h) = rw (lt-ltb p q h)
-true-higher p i q j (inr h) = by (ltb p q)
-  where
-    by : (b : Bool) → (b || (eqb p q && ltb i j)) ≡ true
-    by true = refl
-    by false = rw (eq-eqb p q (h .0), lt-ltb i j (h .1))
-
-higher-trans : (p i q j r k : ℕ) → Higher p i q j → Higher q j r k → Higher p i r k
-higher-trans p i q j r k (inl a) (inl b) = inl (omega arith)
-higher-trans p i q j r k (inl a) (inr b) = inl (omega arith)
-higher-trans p i q j r k (inr a) (inl b) = inl (omega arith)
-higher-trans p i q j r k (inr a) (inr b) = inr (omega arith, omega arith)
 
 module _ (period number count : ℕ → ℕ) (n c : ℕ) where
   abbrev core : ℕ → ℕ

@@ -26,14 +26,14 @@ module _ (f : ℕ → List ℕ) where
   abbrev size : ℕ → ℕ
   size k = length (f k)
 
-  pub joined-length : (c : ℕ) → length (joined f (numbers 0 c)) ≡ firstOf size c
+  joined-length : (c : ℕ) → length (joined f (numbers 0 c)) ≡ firstOf size c
   unfolding firstOf joined numbers
   joined-length zero = refl
   joined-length (suc c) =
       let next : joined f (numbers 0 (suc c)) ≡ joined f (numbers 0 c) ++ f c = rw (add-one c) at (joined-next f c) in
       ap length next ∙ simp length-append (omega (arith, joined-length c))
 
-  pub joined-at : (c k x : ℕ) → k < c → x < length (f k) → getD (joined f (numbers 0 c)) (firstOf size k + x) 0 ≡ getD (f k) x 0
+  joined-at : (c k x : ℕ) → k < c → x < length (f k) → getD (joined f (numbers 0 c)) (firstOf size k + x) 0 ≡ getD (f k) x 0
   unfolding firstOf
   joined-at zero k x h q = absurd (omega arith)
   joined-at (suc c) k x h q =
@@ -89,7 +89,7 @@ module _ (p core : ℕ → ℕ) (n : ℕ) where
     abbrev count : ℕ → ℕ
     count k = length (tasks k)
 
-    pub count-all : firstOf count c ≡ n
+    count-all : firstOf count c ≡ n
     count-all =
         let all : select (λ x. ltb x c) (map core (numbers 0 n)) ≡ map core (numbers 0 n) = select-all (λ x. ltb x c) _ (each-map _ core (numbers 0 n) (each-number _ 0 n (λ i a b. lt-ltb _ _ (placed i (omega arith))))) in
         first-size c ∙ ap length all ∙ length-map (numbers 0 n) core ∙ numbers-length 0 n
@@ -128,14 +128,14 @@ module _ (p core : ℕ → ℕ) (n : ℕ) where
         rw (s .task, s .is-core) m
 
     -- every task stands somewhere
-    pub task-spot : (i : ℕ) → i < n → (j : ℕ) × (j < n) × (at grouping j ≡ i)
+    task-spot : (i : ℕ) → i < n → (j : ℕ) × (j < n) × (at grouping j ≡ i)
     task-spot i h =
         let k : ℕ = core i in
         let (x, a, e) = member-at i (tasks k) (order-holds p core k n i h refl) in
         (firstOf count k + x, omega (arith, count-all, first-rises count (suc k) c (placed i h), first-next count k), joined-at tasks c k x (placed i h) a ∙ e)
 
     -- two positions of one core rise
-    pub spots-rise : (i j : ℕ) → i < j → j < n → coreByCounts count c i ≡ coreByCounts count c j → Above p (at grouping i) (at grouping j)
+    spots-rise : (i j : ℕ) → i < j → j < n → coreByCounts count c i ≡ coreByCounts count c j → Above p (at grouping i) (at grouping j)
     spots-rise i j l h e =
         let s = spot i (omega arith) in
         let t = spot j h in
@@ -152,7 +152,7 @@ module _ (p core : ℕ → ℕ) (n : ℕ) where
         let up = spots-rise i j l h same in
         above-once p (at grouping i) (at grouping j) up (rw (← e) (rw (← e) at up))
 
-    pub grouping-once : EachOnce (at grouping) n
+    grouping-once : EachOnce (at grouping) n
     grouping-once = record { below = λ j h. spot-member j h .0; found = task-spot; once = once }
       where
         once : (i j : ℕ) → i < n → j < n → at grouping i ≡ at grouping j → i ≡ j

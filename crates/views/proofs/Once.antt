@@ -26,16 +26,16 @@ module _ (number : ℕ → ℕ) (n : ℕ) where
   unfolding badNumbers
   not-once i h e = some-hit _ n i h (rw (ne-eqb (times number i n) 1 e))
 
-  pub all-once : ((i : ℕ) → i < n → times number i n ≡ 1) → badNumbers number n ≡ false
+  all-once : ((i : ℕ) → i < n → times number i n ≡ 1) → badNumbers number n ≡ false
   unfolding badNumbers
   all-once h = some-none _ n (λ i l. rw (h i l))
 
-  pub once-each : badNumbers number n ≡ false → (i : ℕ) → i < n → times number i n ≡ 1
+  once-each : badNumbers number n ≡ false → (i : ℕ) → i < n → times number i n ≡ 1
   unfolding badNumbers
   once-each e i l = eqb-true (times number i n) 1 (not-false _ (none-some _ n e i l))
 
   -- where each of 0 to n - 1 stands once, no task has another number
-  pub once-below : ((i : ℕ) → i < n → times number i n ≡ 1) → (j : ℕ) → j < n → number j < n
+  once-below : ((i : ℕ) → i < n → times number i n ≡ 1) → (j : ℕ) → j < n → number j < n
   once-below h j l = ltb-true (number j) n (each-value (λ x. ltb x n ≡ true) number 0 n (all-selected (λ x. ltb x n) (map number (numbers 0 n)) all) j zero-le (rw (zero-add n) l))
     where
       all : length (select (λ x. ltb x n) (map number (numbers 0 n))) ≡ length (map number (numbers 0 n))

@@ -2,7 +2,7 @@
 -- Assumes nothing.
 use Prim.Native.Nat.{ℕ, _*_, _/_, _<_}
 use mathlib.Core.Path.{_≡_, refl, sym, ap, _∙_}
-use mathlib.Core.List.{List, [], _∷_, map}
+use mathlib.Core.List.{List, [], _∷_, map, map-id}
 use Rattle.sheet.specs.Records.{Figures}
 use Rattle.sheet.specs.Views.{positionOf, renumbered}
 use Rattle.fit.specs.Lists.{sum, Each}
@@ -84,12 +84,7 @@ view-renamed f number core count same h = record {
     own : (j : ℕ) → j < f .tasks → positionOf number (f .tasks) (number j) ≡ j
     own = position-number number (f .tasks) (h .numbers)
 
--- figures that agree are so under the same numbers
-map-id : (l : List ℕ) → map (λ i. i) l ≡ l
-map-id [] = refl
-map-id (i ∷ l) = ap (λ (m : List ℕ). i ∷ m) (map-id l)
-
--- have the same orders
+-- figures that agree have the same orders, and are so under the same numbers
 pub agree-order : (f g : Figures) → Agree f g → (k : ℕ) → orderOn g k ≡ orderOn f k
 unfolding orderOn
 agree-order f g s k =

@@ -1,4 +1,5 @@
--- The same figures with the tasks under the same or other numbers.
+-- The same figures with the tasks under the same or other numbers: what the two views of a sheet, and a sheet and its moved sheet, share
+-- (docs/SHEET.md, section 12).
 use Prim.Native.Nat.{ℕ, _<_}
 use mathlib.Core.Path.{_≡_}
 use mathlib.Core.List.{map}

@@ -1,5 +1,5 @@
 use borrow.Author.Needs.{needs}
-use Rattle.mover.proofs.Planning.{core-plan}
+use Rattle.mover.proofs.Arranging.{core-arranged}
 use Rattle.mover.proofs.by_core.Statement.{statement}
 use Rattle.mover.proofs.by_core.Tie as tie
 use Rattle.mover.proofs.by_core.Reads as reads
@@ -45,7 +45,7 @@ core-by-core-requires : tie.Need-core-by-core-requires
 core-by-core-requires c κs = search needs
 
 returns : tie.Need-returns
-returns c = search core-plan
+returns c = search core-arranged
 
 pub by-core-spec : {M : Type 1} → statement M
 by-core-spec =

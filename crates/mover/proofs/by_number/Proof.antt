@@ -1,5 +1,5 @@
 use borrow.Author.Needs.{needs}
-use Rattle.mover.proofs.Planning.{number-plan}
+use Rattle.mover.proofs.Arranging.{number-arranged}
 use Rattle.mover.proofs.by_number.Statement.{statement}
 use Rattle.mover.proofs.by_number.Tie as tie
 use Rattle.mover.proofs.by_number.Reads as reads
@@ -45,7 +45,7 @@ look-up-requires : tie.Need-look-up-requires
 look-up-requires c κs = search needs
 
 returns : tie.Need-returns
-returns c = search number-plan
+returns c = search number-arranged
 
 pub by-number-spec : {M : Type 1} → statement M
 by-number-spec =

@@ -3,7 +3,7 @@ use Prim.Native.Nat.{_≤_, _-_}
 use Rattle.fit.specs.Answers.{Column}
 use Rattle.fit.proofs.Sorting.{fill-start, fill-turn, fill-end}
 use Rattle.mover.specs.Steps.{found}
-use Rattle.mover.proofs.Planning.{found-at}
+use Rattle.mover.proofs.Arranging.{found-at}
 use Rattle.mover.proofs.look_up.Statement.{statement}
 use Rattle.mover.proofs.look_up.Tie as tie
 use Rattle.mover.proofs.look_up.Reads as reads

@@ -10,10 +10,10 @@ use Rattle.mover.proofs.put_tasks.Lts as lts
 use Rattle.mover.proofs.put_task.Reads as put-task-reads
 
 abbrev Inv-loop : tie.InvT-loop
-Inv-loop part₀ tasks n from fourth at₀ i₀ part at i = (i ≤ n) × Laid (taskBytes tasks from fourth) 10 part₀ i at part
+Inv-loop part₀ tasks n from byte4 at₀ i₀ part at i = (i ≤ n) × Laid (taskBytes tasks from byte4) 10 part₀ i at part
 
 abbrev μ-loop : tie.MeasureT-loop
-μ-loop part₀ tasks n from fourth at₀ i₀ part at i = n - i
+μ-loop part₀ tasks n from byte4 at₀ i₀ part at i = n - i
 
 loop-holds : tie.Need-loop-holds Inv-loop μ-loop
 loop-holds c = search (lay-start, needs)

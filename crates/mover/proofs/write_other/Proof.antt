@@ -1,5 +1,5 @@
 use borrow.Author.Needs.{needs}
-use Rattle.mover.proofs.Planning.{told, number-moved, core-moved}
+use Rattle.mover.proofs.Arranging.{told, number-moved, core-moved}
 use Rattle.mover.proofs.write_other.Statement.{statement}
 use Rattle.mover.proofs.write_other.Tie as tie
 use Rattle.mover.proofs.write_other.Reads as reads

@@ -72,7 +72,7 @@ same-length : tie.Need-same-length
 same-length c = search needs
 
 returns : tie.Need-returns
-returns c = λ y planned. (search sheet-length, search sheet-written)
+returns c = λ y arranged. (search sheet-length, search sheet-written)
 
 pub write-sheet-spec : {M : Type 1} → statement M
 write-sheet-spec =
