@@ -1,5 +1,5 @@
 #!/usr/bin/env bash
-# The programs list, plan, margins and move, and run-example: what they print on standard output and standard error, and their exit status.
+# What the programs list, plan, margins and move_sheet, and run-example, print on standard output and standard error; their exit status.
 # Stored and written here is what the rules of sheets and plans give, and for the programs' own messages what docs/DECISIONS.md says.
 set -euo pipefail
 cd "$(dirname "$0")/.."
@@ -250,39 +250,40 @@ try 'margins of a closed input' 0 '' 'standard input: Bad file descriptor\n' sh 
 try 'margins of an input that breaks off' 0 '' 'standard input: Input/output error\n' broken $margins
 try 'margins to a full device' 0 '' 'standard output: No space left on device\n' sh -c "$margins > /dev/full" < examples/full-core.jobs
 
-# move: to version 2 and back.
-rt check move > "$room/log" 2>&1 || { cat "$room/log"; exit 1; }
-move=target/bin/move
-try 'move of version 1' 0 "$(by_core 1 4 0 2)" '' $move < <(printf "$by_number")
-try 'move of version 2' 0 "$by_number" '' $move < <(printf "$(by_core 1 4 0 2)")
-try 'move of card B' 0 'TSH\2\0\3\1\0\3\0\1\0\0\0\1\0\0\0\7\0\1\0\1\0\2\0\0\0\15\0\6\0\2\0\4\0\0\0\3\0\3\0\1\0\0\0' '' $move < <(sheet_b 6 4 0)
-try 'move of an empty sheet' 0 'TSH\2\0\0\0\0' '' $move < <(printf 'TSH\1\0\0\0\0')
-try 'move of an empty sheet of version 2' 0 'TSH\1\0\0\0\0' '' $move < <(printf 'TSH\2\0\0\0\0')
+# move_sheet: to version 2 and back.
+rt check move_sheet > "$room/log" 2>&1 || { cat "$room/log"; exit 1; }
+move=target/bin/move_sheet
+try 'move_sheet of version 1' 0 "$(by_core 1 4 0 2)" '' $move < <(printf "$by_number")
+try 'move_sheet of version 2' 0 "$by_number" '' $move < <(printf "$(by_core 1 4 0 2)")
+try 'move_sheet of card B' 0 'TSH\2\0\3\1\0\3\0\1\0\0\0\1\0\0\0\7\0\1\0\1\0\2\0\0\0\15\0\6\0\2\0\4\0\0\0\3\0\3\0\1\0\0\0' '' \
+    $move < <(sheet_b 6 4 0)
+try 'move_sheet of an empty sheet' 0 'TSH\2\0\0\0\0' '' $move < <(printf 'TSH\1\0\0\0\0')
+try 'move_sheet of an empty sheet of version 2' 0 'TSH\1\0\0\0\0' '' $move < <(printf 'TSH\2\0\0\0\0')
 $move < "$room/longest" > "$room/moved"
-try 'move and list of the longest sheet' 0 "${longest/TSH 1/TSH 2}\n" '' $list < "$room/moved"
-try 'move of the longest sheet and back' 0 '' '' cmp "$room/longest" <($move < "$room/moved")
-try 'move and list of a plan' 0 "TSH 2 ${one_task#TSH 1 } 2 budget 1 factor 1 within 2\ncore 0 pivot 2 divisor 1 load 500\n" '' \
+try 'move_sheet and list of the longest sheet' 0 "${longest/TSH 1/TSH 2}\n" '' $list < "$room/moved"
+try 'move_sheet of the longest sheet and back' 0 '' '' cmp "$room/longest" <($move < "$room/moved")
+try 'move_sheet and list of a plan' 0 "TSH 2 ${one_task#TSH 1 } 2 budget 1 factor 1 within 2\ncore 0 pivot 2 divisor 1 load 500\n" '' \
     $list < <(echo '2 1' | $plan | $move)
 
-# move: refused sheets, of which nothing is written.
-try 'move of card C' 0 '' 'refused 14 place 64\n' $move < <(sheet_b 7 4 0)
-try 'move of card D' 0 '' 'refused 12 place 2\n' $move < <(sheet_b 6 5 0)
-try 'move of a number twice' 0 '' 'refused 23 place 0\n' $move < <(printf "$(by_core 1 4 2 2)")
-try 'move of counts that do not add up' 0 '' 'refused 23 place 0\n' $move < <(printf "$(by_core 1 4 0 3)")
-try 'move of equal periods in the wrong order' 0 '' 'refused 23 place 0\n' $move < <(printf "$(by_core 4 1 0 2)")
-try 'move of version 3' 0 '' 'refused 3 place 0\n' $move < <(printf 'TSH\3\0\0\0\0')
-try 'move of nothing' 0 '' 'refused 1 place 0\n' $move < /dev/null
-try 'move of a spare byte in use' 0 '' 'refused 6 place 33\n' $move < <(sheet_b 6 4 1)
-try 'move of a byte too many' 0 '' 'refused 5 place 0\n' $move < <(sheet_b 6 4 0; printf '\0')
-try 'move of 713 bytes' 0 '' 'refused 5 place 0\n' $move < <(cat "$room/longest"; printf '\0')
-try 'move of 2,000 bytes' 0 '' 'refused 2 place 0\n' $move < <(noise 2000)
+# move_sheet: refused sheets, of which nothing is written.
+try 'move_sheet of card C' 0 '' 'refused 14 place 64\n' $move < <(sheet_b 7 4 0)
+try 'move_sheet of card D' 0 '' 'refused 12 place 2\n' $move < <(sheet_b 6 5 0)
+try 'move_sheet of a number twice' 0 '' 'refused 23 place 0\n' $move < <(printf "$(by_core 1 4 2 2)")
+try 'move_sheet of counts that do not add up' 0 '' 'refused 23 place 0\n' $move < <(printf "$(by_core 1 4 0 3)")
+try 'move_sheet of equal periods in the wrong order' 0 '' 'refused 23 place 0\n' $move < <(printf "$(by_core 4 1 0 2)")
+try 'move_sheet of version 3' 0 '' 'refused 3 place 0\n' $move < <(printf 'TSH\3\0\0\0\0')
+try 'move_sheet of nothing' 0 '' 'refused 1 place 0\n' $move < /dev/null
+try 'move_sheet of a spare byte in use' 0 '' 'refused 6 place 33\n' $move < <(sheet_b 6 4 1)
+try 'move_sheet of a byte too many' 0 '' 'refused 5 place 0\n' $move < <(sheet_b 6 4 0; printf '\0')
+try 'move_sheet of 713 bytes' 0 '' 'refused 5 place 0\n' $move < <(cat "$room/longest"; printf '\0')
+try 'move_sheet of 2,000 bytes' 0 '' 'refused 2 place 0\n' $move < <(noise 2000)
 
-# move: arguments, at which nothing is read, and input and output that fail.
+# move_sheet: arguments, at which nothing is read, and input and output that fail.
 for word in --help SHEET ''; do
-    try "move '$word'" 0 'left\n' 'usage: move < SHEET > MOVED\n' sh -c "$move '$word'; cat" < <(echo left)
+    try "move_sheet '$word'" 0 'left\n' 'usage: move_sheet < SHEET > MOVED\n' sh -c "$move '$word'; cat" < <(echo left)
 done
-try 'move of a directory' 0 '' 'standard input: Is a directory\n' $move < examples
-try 'move of a closed input' 0 '' 'standard input: Bad file descriptor\n' sh -c "$move <&-"
-try 'move of an input that breaks off' 0 '' 'standard input: Input/output error\n' broken $move
-try 'move to a full device' 0 '' 'standard output: No space left on device\n' sh -c "$move > /dev/full" < <(sheet_b 6 4 0)
+try 'move_sheet of a directory' 0 '' 'standard input: Is a directory\n' $move < examples
+try 'move_sheet of a closed input' 0 '' 'standard input: Bad file descriptor\n' sh -c "$move <&-"
+try 'move_sheet of an input that breaks off' 0 '' 'standard input: Input/output error\n' broken $move
+try 'move_sheet to a full device' 0 '' 'standard output: No space left on device\n' sh -c "$move > /dev/full" < <(sheet_b 6 4 0)
 echo "programs: $cases cases"
