@@ -113,7 +113,8 @@ impl Grouping {
 }
 
 impl Sheet {
-    /// The figures of bytes that have the length of these counts: of version 1.
+    /// The figures of bytes that have the length of these counts, as version 1
+    /// reads them: byte 4 is the core.
     pub fn read(bytes: &[u8], tasks: usize, cores: usize) -> Sheet {
         let (task_part, core_part) = parts(bytes, tasks, cores);
         Sheet {
