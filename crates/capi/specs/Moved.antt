@@ -9,8 +9,8 @@ use Rattle.mover.specs.Moved.{moved}
 use Rattle.dispatcher.specs.Starts.{sheetAnswer, sheetState}
 use Rattle.listing.specs.Listing.{sheetText, listingOf}
 
--- Sheet t for sheet s: the checker answers the same; it is of the other version; moved back it is s; a start of any core answers the same and hands back the same
--- state; and its listing is that of s but for the version in the first line.
+-- Sheet t for sheet s: the checker answers the same; it is of the other version; moved back it is s; a start of any core answers the same
+-- and hands back the same state; and its listing is that of s but for the version in the first line.
 pub record RunsAlike (s t : List ℕ) : Type 0 where
   pub check : verdict t ≡ verdict s
   pub other : isGrouped t ≡ not (isGrouped s)

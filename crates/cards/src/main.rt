@@ -1,5 +1,6 @@
 // Runs the cards of specs/Cards.antt, but for U, which is about the definition of the trials, through the code and prints a line for each
-// (three for R, one a start; for X the verdict, the mover both ways and a run; three for Y), then the listing of the sheets of B, C, P and X.
+// (three for R, one a start; for X the verdict, the mover both ways and a run; three for Y), then the listing of the sheets of B, C, P
+// and X.
 ghost use Prim.Native.Nat.{_+_, _*_, _≤_};
 ghost use mathlib.Core.Path.{_≡_};
 ghost use mathlib.Core.Bool.{true};

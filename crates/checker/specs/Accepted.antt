@@ -1,5 +1,5 @@
--- What it means that a sheet is accepted, as a proposition (docs/SHEET.md, sections 2 to 4 and 12), and what a dispatcher may rely on for a core
--- of an accepted sheet.
+-- What it means that a sheet is accepted, as a proposition (docs/SHEET.md, sections 2 to 4 and 12), and what a dispatcher may rely on for
+-- a core of an accepted sheet.
 use Prim.Native.Nat.{ℕ, _+_, _*_, _≤_, _<_}
 use mathlib.Core.Path.{_≡_}
 use mathlib.Core.Logic.{_⊎_}

@@ -77,7 +77,7 @@ fn answer(found: Finding, n: u8, c: u8) -> Verdict
     }
 }
 
-// Checks a sheet: any bytes get the answer of docs/SHEET.md, section 4.
+// Checks a sheet: any bytes get the answer of docs/SHEET.md, sections 4 and 12.
 pub fn check(sheet: &[u8]) -> Verdict
     ensures { λ r. ⌜ outcomeOf r ≡ verdict (now (sheet .entry)) ⌝ }
 {
