@@ -1,0 +1,5 @@
+use crate::log::Log;
+
+pub fn text(_logs: &[Log], _width: usize) -> String {
+    String::new()
+}

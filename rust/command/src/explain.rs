@@ -1,0 +1,11 @@
+//! `homvaits explain`.
+
+use crate::args::{Args, OptionSpec};
+use crate::failure::{Outcome, WELL};
+use crate::files::Out;
+
+pub const OPTIONS: &[OptionSpec] = &[];
+
+pub fn explain(_args: &Args, _out: &mut Out) -> Outcome {
+    Ok(WELL)
+}

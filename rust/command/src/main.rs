@@ -1,0 +1,156 @@
+//! The command `homvaits`. Every verdict, plan, state, margin and moved sheet comes from the proved library, through the crate
+//! `homvaits`; the command reads, words, counts and draws.
+
+mod args;
+mod check;
+mod draw;
+mod explain;
+mod failure;
+mod fields;
+mod files;
+mod help;
+mod jobs;
+mod judge;
+mod list;
+mod log;
+mod margins;
+mod move_sheet;
+mod plan;
+mod run;
+mod table;
+mod wording;
+
+use std::env;
+use std::ffi::OsString;
+use std::process::ExitCode;
+
+use args::{Args, OptionSpec};
+use failure::{Failure, Outcome, FAILED, WELL};
+use files::Out;
+
+/// A command: its name, its help, its options, and what it does.
+struct Command {
+    name: &'static str,
+    help: &'static str,
+    options: &'static [OptionSpec],
+    work: fn(&Args, &mut Out) -> Outcome,
+}
+
+const COMMANDS: [Command; 8] = [
+    Command {
+        name: "check",
+        help: help::CHECK,
+        options: check::OPTIONS,
+        work: check::check,
+    },
+    Command {
+        name: "list",
+        help: help::LIST,
+        options: &[],
+        work: list::list,
+    },
+    Command {
+        name: "explain",
+        help: help::EXPLAIN,
+        options: &[],
+        work: explain::explain,
+    },
+    Command {
+        name: "plan",
+        help: help::PLAN,
+        options: plan::OPTIONS,
+        work: plan::plan,
+    },
+    Command {
+        name: "margins",
+        help: help::MARGINS,
+        options: &[],
+        work: margins::margins,
+    },
+    Command {
+        name: "move",
+        help: help::MOVE,
+        options: move_sheet::OPTIONS,
+        work: move_sheet::move_sheet,
+    },
+    Command {
+        name: "run",
+        help: help::RUN,
+        options: run::OPTIONS,
+        work: run::run,
+    },
+    Command {
+        name: "draw",
+        help: help::DRAW,
+        options: draw::OPTIONS,
+        work: draw::draw,
+    },
+];
+
+fn main() -> ExitCode {
+    let words: Vec<OsString> = env::args_os().skip(1).collect();
+    let mut out = Out::new();
+    let outcome = dispatch(words, &mut out);
+    // what was worked out before a failure is printed before it is told
+    let written = out.end();
+    let status = match outcome.and_then(|status| written.map(|()| status)) {
+        Ok(status) => status,
+        Err(failure) => {
+            files::tell(&failure.text);
+            failure.status
+        }
+    };
+    ExitCode::from(status)
+}
+
+fn dispatch(words: Vec<OsString>, out: &mut Out) -> Outcome {
+    let mut words = words.into_iter();
+    let first = words.next().unwrap_or_default();
+    let first = first.to_string_lossy();
+    match first.as_ref() {
+        "" => {
+            files::tell(help::GENERAL.trim_end());
+            return Ok(FAILED);
+        }
+        "help" | "--help" | "-h" => return help(words.next(), out),
+        "--version" | "-V" => {
+            out.line(concat!("homvaits ", env!("CARGO_PKG_VERSION")));
+            return Ok(WELL);
+        }
+        _ => {}
+    }
+    let command = command(&first)?;
+    let words: Vec<OsString> = words.collect();
+    let files_from = words.iter().position(|word| word == "--");
+    let options = &words[..files_from.unwrap_or(words.len())];
+    if options.iter().any(|word| word == "--help" || word == "-h") {
+        out.write(command.help.as_bytes());
+        return Ok(WELL);
+    }
+    let work = || (command.work)(&Args::parse(words, command.options)?, out);
+    work().map_err(|failure| Failure {
+        text: format!("homvaits {}: {}", command.name, failure.text),
+        ..failure
+    })
+}
+
+fn help(of: Option<OsString>, out: &mut Out) -> Outcome {
+    let text = match of {
+        Some(name) => command(&name.to_string_lossy())?.help,
+        None => help::GENERAL,
+    };
+    out.write(text.as_bytes());
+    Ok(WELL)
+}
+
+fn command(name: &str) -> Result<&'static Command, Failure> {
+    let found = COMMANDS.iter().find(|command| command.name == name);
+    found.ok_or_else(|| {
+        let names: Vec<&str> = COMMANDS.iter().map(|command| command.name).collect();
+        Failure::new(format!(
+            "homvaits: there is no command {}: there are {}, and help",
+            name.escape_debug(),
+            names.join(", ")
+        ))
+    })
+}

@@ -1,0 +1,84 @@
+//! Every start of a job list.
+
+use homvaits::{Refusal, Sheet, Word};
+
+use crate::failure::Failure;
+use crate::jobs::JobList;
+use crate::table::{Side, Table};
+use crate::wording::{counted, joined};
+
+/// The plan that needs the fewest cores, from the first start that gives one, with that start. What each start gives goes to `lines`.
+pub fn best(list: &JobList, limit: u8, lines: &mut Vec<String>) -> Result<(Sheet, usize), Failure> {
+    let jobs = list.jobs();
+    let plans: Vec<Result<Sheet, Refusal>> = (0..jobs.len().max(1))
+        .map(|start| homvaits::plan(&jobs, limit, start))
+        .collect();
+    // a list that is wrong is refused from every start
+    let wrong = plans.iter().find_map(|plan| match plan {
+        Err(refusal) if refusal.word != Word::NoFit => Some(*refusal),
+        _ => None,
+    });
+    if let Some(refusal) = wrong {
+        return Err(list.refused(refusal));
+    }
+    lines.extend(table(list, &plans).lines());
+    let planned = plans.iter().enumerate();
+    let planned = planned.filter_map(|(start, plan)| Some((start, plan.as_ref().ok()?)));
+    // of several the first
+    let best = planned.clone().min_by_key(|(_, sheet)| sheet.cores().len());
+    let Some((start, sheet)) = best else {
+        return Err(Failure::refused(format!(
+            "{}: refused 15 (No fit): none of the {} gives a plan on {}",
+            list.file,
+            counted(plans.len() as u64, "start"),
+            at_most(limit)
+        )));
+    };
+    let fewest = sheet.cores().len();
+    let starts: Vec<usize> = planned
+        .filter(|(_, sheet)| sheet.cores().len() == fewest)
+        .map(|(start, _)| start)
+        .collect();
+    let from = match starts.len() {
+        1 => "from start",
+        _ => "from the starts",
+    };
+    lines.push(format!(
+        "the fewest cores: {fewest}, {from} {}",
+        joined(&starts)
+    ));
+    Ok((sheet.clone(), start))
+}
+
+fn at_most(limit: u8) -> String {
+    match limit {
+        0 => "0 cores".to_owned(),
+        _ => format!("at most {}", counted(limit.into(), "core")),
+    }
+}
+
+fn table(list: &JobList, plans: &[Result<Sheet, Refusal>]) -> Table {
+    let mut table = Table::new(&[
+        ("start", Side::Right),
+        ("cores", Side::Right),
+        ("loads", Side::Left),
+    ]);
+    for (start, plan) in plans.iter().enumerate() {
+        let (cores, loads) = match plan {
+            Ok(sheet) => {
+                let loads: Vec<u16> = sheet.cores().map(|core| core.load).collect();
+                (loads.len().to_string(), joined(&loads))
+            }
+            Err(refusal) => {
+                let task = usize::from(refusal.place.number());
+                let place = match list.listed.get(task) {
+                    Some(listed) => format!("line {}, {}", listed.line, list.task(task)),
+                    None => list.task(task),
+                };
+                ("none".to_owned(), format!("no core takes {place}"))
+            }
+        };
+        table.row(vec![start.to_string(), cores, loads]);
+    }
+    table
+}

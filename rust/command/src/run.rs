@@ -1,0 +1,63 @@
+//! `homvaits run`: drives the cores of a sheet, and tells how their jobs got on.
+
+mod cores;
+mod driver;
+pub mod make;
+mod tally;
+
+use std::ffi::OsStr;
+
+use crate::args::{flag, valued, Args, OptionSpec};
+use crate::failure::{Outcome, REFUSED, WELL};
+use crate::files::{replace, shown, tell, Out};
+use crate::log::{Log, FIRST_LINE};
+use make::Made;
+
+pub const OPTIONS: &[OptionSpec] = &[
+    valued("--core", "K"),
+    valued("--ticks", "N"),
+    flag("--earliest"),
+    valued("--random", "SEED"),
+    valued("--calls", "FILE"),
+    valued("--names", "JOBS"),
+    flag("--bench"),
+    valued("-o", "LOG"),
+];
+
+pub fn run(args: &Args, out: &mut Out) -> Outcome {
+    let made = make::runs(args)?;
+    let told = tally::told(&made.logs);
+    let to = args.value("-o").filter(|&to| to != OsStr::new("-"));
+    match to {
+        None => {
+            out.line(FIRST_LINE);
+            for log in &made.logs {
+                out.write(log.text().as_bytes());
+            }
+            // comments, so that what was printed is a log
+            told.lines
+                .iter()
+                .for_each(|line| out.line(&format!("# {line}")));
+        }
+        Some(to) => {
+            replace(to, whole(&made.logs).as_bytes())?;
+            told.lines.iter().for_each(|line| out.line(line));
+            out.line(&format!("{}: the log", shown(to)));
+        }
+    }
+    Ok(status(&made, told.late))
+}
+
+/// Tells what is not well, and the exit status.
+pub fn status(made: &Made, late: bool) -> u8 {
+    made.differences.iter().for_each(|text| tell(text));
+    match late || !made.differences.is_empty() {
+        true => REFUSED,
+        false => WELL,
+    }
+}
+
+fn whole(logs: &[Log]) -> String {
+    let texts = logs.iter().map(Log::text);
+    texts.fold(format!("{FIRST_LINE}\n"), |whole, text| whole + &text)
+}

@@ -1,0 +1,110 @@
+//! The cores that are run: started from a sheet, or from a job list on the bench.
+
+use std::ffi::OsStr;
+
+use homvaits::{Core, Sheet};
+
+use crate::failure::Failure;
+use crate::files::shown;
+use crate::jobs::JobList;
+use crate::log::{Origin, Task};
+use crate::wording;
+
+/// A core that was started, and its tasks in order of priority.
+pub struct Started {
+    pub origin: Origin,
+    pub core: Core,
+    pub tasks: Vec<Task>,
+}
+
+/// The cores of a sheet, or the one that is named.
+pub fn of_sheet(path: &OsStr, bytes: &[u8], only: Option<u8>) -> Result<Vec<Started>, Failure> {
+    let sheet = Sheet::check(bytes).map_err(|refusal| {
+        let why = wording::refused(refusal, bytes);
+        Failure::refused(format!("{}: {why}", shown(path)))
+    })?;
+    let cores = sheet.cores().len() as u8;
+    let numbers = match only {
+        Some(core) => core..core + 1,
+        None => 0..cores,
+    };
+    numbers
+        .map(|number| match Core::start(&sheet, number) {
+            Ok(core) => Ok(started(&sheet, number, core)),
+            Err(refusal) => Err(Failure::new(format!(
+                "--core {number}: refused {} ({}): {} has {}",
+                refusal.number(),
+                refusal.word.name(),
+                shown(path),
+                wording::counted(cores.into(), "core"),
+            ))),
+        })
+        .collect()
+}
+
+fn started(sheet: &Sheet, number: u8, core: Core) -> Started {
+    let within = |task: u8| {
+        let found = sheet.tasks().nth(task.into());
+        found.map_or(0, |task| task.within)
+    };
+    let tasks = core.tasks().iter().map(|task| Task {
+        number: task.number,
+        period: task.period,
+        budget: task.budget,
+        within: within(task.number),
+        name: None,
+    });
+    Started {
+        origin: Origin::Core(number),
+        tasks: tasks.collect(),
+        core,
+    }
+}
+
+/// All jobs of a list on one core, each with its period to end in.
+pub fn of_list(list: &JobList) -> Result<Started, Failure> {
+    let core = Core::start_list(&list.jobs()).map_err(|refusal| list.refused(refusal))?;
+    let name = |task: u8| list.listed.get(usize::from(task))?.name.clone();
+    let tasks = core.tasks().iter().map(|task| Task {
+        number: task.number,
+        period: task.period,
+        budget: task.budget,
+        within: task.period,
+        name: name(task.number),
+    });
+    Ok(Started {
+        origin: Origin::Bench,
+        tasks: tasks.collect(),
+        core,
+    })
+}
+
+/// Names tasks by a job list, which must have the same tasks.
+pub fn name<'a>(
+    tasks: impl IntoIterator<Item = &'a mut Task>,
+    list: &JobList,
+) -> Result<(), Failure> {
+    for task in tasks {
+        let number = usize::from(task.number);
+        let Some(listed) = list.listed.get(number) else {
+            return Err(Failure::new(format!(
+                "{}: it names {}, and there is a task {number}: it is another job list",
+                list.file,
+                wording::counted(list.listed.len() as u64, "job")
+            )));
+        };
+        if (listed.job.period, listed.job.budget) != (task.period, task.budget) {
+            return Err(Failure::new(format!(
+                "{}: {} has period {} and budget {} here, and period {} and budget {} in what is run: it is another job list",
+                list.place(number),
+                list.task(number),
+                listed.job.period,
+                listed.job.budget,
+                task.period,
+                task.budget
+            )));
+        }
+        task.name.clone_from(&listed.name);
+    }
+    Ok(())
+}

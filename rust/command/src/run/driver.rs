@@ -1,0 +1,108 @@
+//! Calls on a core: as early as they may be, at random, or as they are told.
+
+use homvaits::Core;
+
+use crate::log::reader::Told;
+use crate::log::{Answer, Call, Entry};
+
+/// A core, and what has happened on it.
+pub struct Driver {
+    core: Core,
+    pub entries: Vec<Entry>,
+}
+
+impl Driver {
+    pub fn new(core: Core) -> Driver {
+        let entries = Vec::new();
+        Driver { core, entries }
+    }
+
+    /// Makes a call, and logs what the library answers.
+    fn call(&mut self, call: Call) -> Answer {
+        let result = match call {
+            Call::Release(task) => self.core.release(task).map(|()| Answer::Accepted),
+            Call::Finish(task) => self.core.finish(task).map(|()| Answer::Accepted),
+            Call::Tick => self.core.tick().map(Answer::Ticked),
+        };
+        let answer = result
+            .unwrap_or_else(|refusal| Answer::Refused(refusal.number(), refusal.place.number()));
+        self.entries.push(Entry { call, answer });
+        answer
+    }
+
+    /// The tasks that may be released: a period has passed, and none of their jobs is pending.
+    fn ready(&self) -> Vec<u8> {
+        let tasks = self.core.tasks().iter();
+        let ready = tasks.filter(|task| task.age >= task.period && !task.is_pending());
+        ready.map(|task| task.number).collect()
+    }
+
+    /// Releases each task as soon as it may be, and lets each job use its budget.
+    pub fn earliest(&mut self, ticks: usize) {
+        for _ in 0..ticks {
+            for task in self.ready() {
+                self.call(Call::Release(task));
+            }
+            self.call(Call::Tick);
+        }
+    }
+
+    /// Releases sooner or later, finishes some jobs early, and makes some calls without looking whether they will be refused.
+    pub fn random(&mut self, ticks: usize, seed: u64) {
+        let mut rng = Rng(seed);
+        for _ in 0..ticks {
+            for task in self.ready() {
+                if rng.once_in(2) {
+                    self.call(Call::Release(task));
+                }
+            }
+            if rng.once_in(16) {
+                let call = self.any_call(&mut rng);
+                self.call(call);
+            }
+            self.call(Call::Tick);
+        }
+    }
+
+    /// A release or a finish, mostly of a task of the core.
+    fn any_call(&self, rng: &mut Rng) -> Call {
+        let tasks = self.core.tasks();
+        let number = match tasks.get(rng.below(tasks.len() as u64 + 1) as usize) {
+            Some(task) => task.number,
+            None => rng.below(64) as u8,
+        };
+        match rng.once_in(4) {
+            true => Call::Release(number),
+            false => Call::Finish(number),
+        }
+    }
+
+    /// Makes the calls that are told. The answers that are told and are not the library's, each with what the library answers.
+    pub fn told(&mut self, calls: &[Told]) -> Vec<(Told, Answer)> {
+        let mut differences = Vec::new();
+        for &told in calls {
+            let answer = self.call(told.call);
+            if told.answer.is_some_and(|told| told != answer) {
+                differences.push((told, answer));
+            }
+        }
+        differences
+    }
+}
+
+/// Splitmix64.
+struct Rng(u64);
+
+impl Rng {
+    fn below(&mut self, end: u64) -> u64 {
+        self.0 = self.0.wrapping_add(0x9E37_79B9_7F4A_7C15);
+        let mut z = self.0;
+        z = (z ^ (z >> 30)).wrapping_mul(0xBF58_476D_1CE4_E5B9);
+        z = (z ^ (z >> 27)).wrapping_mul(0x94D0_49BB_1331_11EB);
+        (z ^ (z >> 31)) % end.max(1)
+    }
+
+    fn once_in(&mut self, times: u64) -> bool {
+        self.below(times) == 0
+    }
+}

@@ -1,0 +1,224 @@
+//! The runs that the arguments ask for.
+
+use std::ffi::OsStr;
+
+use super::cores::{self, Started};
+use super::driver::Driver;
+use crate::args::Args;
+use crate::failure::Failure;
+use crate::files::read_front;
+use crate::jobs::JobList;
+use crate::list::FRONT;
+use crate::log::reader::{Calls, Part, Told};
+use crate::log::{Answer, Log, Origin, Task};
+
+/// Ticks that a run has at most.
+const MOST_TICKS: u64 = 1_000_000;
+
+/// Differences that are told one by one.
+const MOST_DIFFERENCES: usize = 10;
+
+/// Logs of cores, and where told answers are not the library's, in sentences.
+pub struct Made {
+    pub logs: Vec<Log>,
+    pub differences: Vec<String>,
+}
+
+/// What is to be done on each core.
+enum Plan {
+    Earliest(usize),
+    Random(usize, u64),
+    Told(Calls),
+}
+
+/// Runs what the file of the arguments has.
+pub fn runs(args: &Args) -> Result<Made, Failure> {
+    let path = args.one_file(match args.has("--bench") {
+        true => "job list",
+        false => "sheet",
+    })?;
+    once_standard_input(args, path)?;
+    match args.has("--bench") {
+        true => bench(args, path),
+        false => of_bytes(args, path, &read_front(path, FRONT)?),
+    }
+}
+
+/// Runs the cores of a sheet that was read.
+pub fn of_bytes(args: &Args, path: &OsStr, bytes: &[u8]) -> Result<Made, Failure> {
+    looked_at(args)?;
+    let only = args.number("--core", 0, 7)?.map(|core| core as u8);
+    let mut started = cores::of_sheet(path, bytes, only)?;
+    named(
+        args,
+        started.iter_mut().flat_map(|started| &mut started.tasks),
+    )?;
+    drive(args, started)
+}
+
+/// Runs a job list on the bench.
+pub fn bench(args: &Args, path: &OsStr) -> Result<Made, Failure> {
+    looked_at(args)?;
+    args.at_most_one(&["--bench", "--core"])?;
+    let list = JobList::read(path)?;
+    let mut started = vec![cores::of_list(&list)?];
+    named(
+        args,
+        started.iter_mut().flat_map(|started| &mut started.tasks),
+    )?;
+    drive(args, started)
+}
+
+/// Names tasks by the job list of `--names`, if it is there.
+pub fn named<'a>(
+    args: &Args,
+    tasks: impl IntoIterator<Item = &'a mut Task>,
+) -> Result<(), Failure> {
+    match args.value("--names") {
+        Some(path) => cores::name(tasks, &JobList::read(path)?),
+        None => Ok(()),
+    }
+}
+
+/// Standard input is read once.
+pub fn once_standard_input(args: &Args, path: &OsStr) -> Result<(), Failure> {
+    let names = [Some(path), args.value("--calls"), args.value("--names")];
+    let inputs = names.iter().filter(|&&name| name == Some(OsStr::new("-")));
+    match inputs.count() {
+        0 | 1 => Ok(()),
+        _ => Err(Failure::new("standard input is named twice")),
+    }
+}
+
+/// The options that do not depend on a file.
+fn looked_at(args: &Args) -> Result<(), Failure> {
+    args.at_most_one(&["--earliest", "--random", "--calls"])?;
+    args.at_most_one(&["--ticks", "--calls"])?;
+    args.number("--ticks", 1, MOST_TICKS)?;
+    args.number("--random", 0, u64::MAX)?;
+    Ok(())
+}
+
+fn drive(args: &Args, started: Vec<Started>) -> Result<Made, Failure> {
+    let plan = match args.value("--calls") {
+        Some(path) => Plan::Told(Calls::read(path)?),
+        None => {
+            let ticks = args.number("--ticks", 1, MOST_TICKS)?;
+            let ticks = ticks.map_or_else(|| enough(&started), |ticks| ticks as usize);
+            match args.number("--random", 0, u64::MAX)? {
+                Some(seed) => Plan::Random(ticks, seed),
+                None => Plan::Earliest(ticks),
+            }
+        }
+    };
+    match plan {
+        Plan::Told(calls) => told(calls, started, args.has("--core")),
+        _ => Ok(Made {
+            logs: started.into_iter().map(|core| free(core, &plan)).collect(),
+            differences: Vec::new(),
+        }),
+    }
+}
+
+/// Twice the longest period, from 40 to 2,000.
+fn enough(started: &[Started]) -> usize {
+    let tasks = started.iter().flat_map(|started| &started.tasks);
+    let longest = tasks.map(|task| task.period).max().unwrap_or(0);
+    (2 * usize::from(longest)).clamp(40, 2_000)
+}
+
+/// A run by itself.
+fn free(started: Started, plan: &Plan) -> Log {
+    let mut driver = Driver::new(started.core);
+    match *plan {
+        Plan::Random(ticks, seed) => driver.random(ticks, seed),
+        Plan::Earliest(ticks) => driver.earliest(ticks),
+        Plan::Told(_) => {}
+    }
+    Log {
+        origin: started.origin,
+        tasks: started.tasks,
+        entries: driver.entries,
+    }
+}
+
+/// Runs of the calls that are told, on the cores that they are told of.
+fn told(calls: Calls, started: Vec<Started>, one_core: bool) -> Result<Made, Failure> {
+    let mut started = started;
+    let mut logs = Vec::new();
+    let mut differences = Vec::new();
+    for part in calls.parts.iter().filter(|part| !part.is_empty()) {
+        let Some(core) = core_of(&calls, part, &mut started, one_core)? else {
+            continue;
+        };
+        same_tasks(&calls, part, &core)?;
+        let mut driver = Driver::new(core.core);
+        let found = driver.told(&part.calls);
+        differences.extend(found.into_iter().map(|found| difference(&calls, found)));
+        logs.push(Log {
+            origin: core.origin,
+            tasks: core.tasks,
+            entries: driver.entries,
+        });
+    }
+    let more = differences.len().saturating_sub(MOST_DIFFERENCES);
+    if more > 0 {
+        differences.truncate(MOST_DIFFERENCES);
+        differences.push(format!(
+            "homvaits: and {more} more answers are not the library's"
+        ));
+    }
+    Ok(Made { logs, differences })
+}
+
+/// The core of a part, taken out of those that were started; none where another core alone is run.
+fn core_of(
+    calls: &Calls,
+    part: &Part,
+    started: &mut Vec<Started>,
+    one_core: bool,
+) -> Result<Option<Started>, Failure> {
+    let Some((origin, line)) = part.origin else {
+        return match started.len() {
+            1 => Ok(started.pop()),
+            0 => Err(calls.wrong(1, "the sheet has no core to run the calls on")),
+            cores => Err(calls.wrong(
+                1,
+                &format!("no line `core K` says whose calls these are, and the sheet has {cores} cores; --core K says it too"),
+            )),
+        };
+    };
+    let place = started.iter().position(|core| core.origin == origin);
+    match place {
+        Some(place) => Ok(Some(started.remove(place))),
+        None if one_core && matches!(origin, Origin::Core(_)) => Ok(None),
+        None => {
+            let what = origin.line();
+            Err(calls.wrong(line, &format!("there is no `{what}` in what is run")))
+        }
+    }
+}
+
+/// The tasks that the calls tell of are those of the core.
+fn same_tasks(calls: &Calls, part: &Part, core: &Started) -> Result<(), Failure> {
+    let figures = |task: &Task| (task.number, task.period, task.budget, task.within);
+    for (task, line) in &part.tasks {
+        if !core.tasks.iter().any(|own| figures(own) == figures(task)) {
+            let text = format!(
+                "task {} with these figures is not on this core: the log is of another sheet",
+                task.number
+            );
+            return Err(calls.wrong(*line, &text));
+        }
+    }
+    Ok(())
+}
+
+fn difference(calls: &Calls, (told, answer): (Told, Answer)) -> String {
+    let said = told.answer.map_or_else(String::new, Answer::text);
+    let answer = answer.text();
+    let (file, line) = (&calls.file, told.line);
+    format!(
+        "homvaits: {file}, line {line}: the log says `{said}`, and the library answers `{answer}`"
+    )
+}

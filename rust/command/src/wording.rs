@@ -1,0 +1,52 @@
+//! Refusals and counts in words.
+
+use homvaits::{Place, Refusal};
+
+/// Whether bytes say that they are a sheet of version 2, in whose refusals tasks go by position.
+pub fn is_grouped(bytes: &[u8]) -> bool {
+    bytes.get(3..5) == Some(&[2, 0])
+}
+
+/// Where a refused sheet breaks its rule: `task 3`, in version 2 `position 3`, `core 0`, `byte 13`, or nothing.
+pub fn place(refusal: Refusal, bytes: &[u8]) -> Option<String> {
+    match refusal.place {
+        Place::Whole => None,
+        Place::Task(task) if is_grouped(bytes) => Some(format!("position {task}")),
+        Place::Task(task) => Some(format!("task {task}")),
+        Place::Core(core) => Some(format!("core {core}")),
+        Place::Offset(offset) => Some(format!("byte {offset}")),
+        other => Some(format!("place {}", other.number())),
+    }
+}
+
+/// A refused sheet in one line: `refused 14 (Overload) at core 0: the core has more work than time`.
+pub fn refused(refusal: Refusal, bytes: &[u8]) -> String {
+    let word = refusal.word;
+    let place = match place(refusal, bytes) {
+        Some(place) => format!(" at {place}"),
+        None => String::new(),
+    };
+    format!(
+        "refused {} ({}){place}: {}",
+        word.number(),
+        word.name(),
+        word.text()
+    )
+}
+
+/// A count and its noun, which takes an s: `1 task`, `2 tasks`.
+pub fn counted(count: u64, noun: &str) -> String {
+    match count {
+        1 => format!("1 {noun}"),
+        _ => format!("{count} {noun}s"),
+    }
+}
+
+/// Things one after the other: `1`, `1 and 2`, `1, 2 and 3`.
+pub fn joined<T: ToString>(things: &[T]) -> String {
+    let words: Vec<String> = things.iter().map(T::to_string).collect();
+    match words.split_last() {
+        Some((last, front)) if !front.is_empty() => format!("{} and {last}", front.join(", ")),
+        _ => words.concat(),
+    }
+}
