@@ -3,6 +3,7 @@
 use std::ffi::{OsStr, OsString};
 
 use crate::failure::Failure;
+use crate::wording::quoted;
 
 /// An option, and the name of its value if it has one.
 #[derive(Clone, Copy)]
@@ -99,7 +100,7 @@ impl Args {
             Some(number) if (low..=high).contains(&number) => Ok(Some(number)),
             _ => Err(Failure::new(format!(
                 "{name} {} is not a number from {low} to {high}",
-                value.to_string_lossy().escape_debug()
+                quoted(&value.to_string_lossy())
             ))),
         }
     }
@@ -113,7 +114,7 @@ impl Args {
             ))),
             [_, next, ..] => Err(Failure::new(format!(
                 "one {what} at a time: {} is one too many",
-                next.to_string_lossy().escape_debug()
+                quoted(&next.to_string_lossy())
             ))),
         }
     }
@@ -132,8 +133,7 @@ impl Args {
 
 fn unknown(word: &OsStr, options: &[OptionSpec]) -> Failure {
     let names: Vec<&str> = options.iter().map(|option| option.name).collect();
-    let word = word.to_string_lossy();
-    let word = word.escape_debug();
+    let word = quoted(&word.to_string_lossy());
     Failure::new(match names.is_empty() {
         true => format!("there is no option {word}: this command has none but --help"),
         false => format!("there is no option {word}: there are {}", names.join(", ")),
@@ -170,11 +170,11 @@ mod tests {
     #[test]
     fn what_is_wrong_is_told() {
         for (words, part) in [
-            (&["--loud"][..], "there is no option --loud"),
+            (&["--loud"][..], "there is no option `--loud`"),
             (&["-o"], "-o wants a value"),
             (&["--quiet=1"], "--quiet takes no value"),
             (&["--quiet", "--quiet"], "--quiet is given twice"),
-            (&["-o=x"], "there is no option -o=x"),
+            (&["-o=x"], "there is no option `-o=x`"),
         ] {
             let text = parse(words).unwrap_err().text;
             assert!(text.contains(part), "{words:?}: {text}");

@@ -63,7 +63,7 @@ pub fn draw(args: &Args, out: &mut Out) -> Outcome {
         None => out.write(picture.as_bytes()),
     }
     let late = |log: &Log| judge::jobs(log).iter().any(|job| job.late);
-    Ok(run::status(&made, made.logs.iter().any(late)))
+    Ok(run::status("draw", &made, made.logs.iter().any(late)))
 }
 
 /// The runs: of a job list, of a sheet, or those of a log.

@@ -34,7 +34,8 @@ where. Folders are gone through, with the folders in them. Every file in them
 counts as a sheet, hidden ones too; links to folders are not followed. A
 summary follows where there was a folder or more than one file.
 
-  --quiet        says nothing of sheets that are accepted, and no summary
+  --quiet        says nothing of sheets that are accepted, and no summary (in
+                 JSON it stays)
   --json         the answers as one JSON document, a line for each file
   --ending TEXT  of the files in folders only those whose names end so
 
@@ -70,8 +71,8 @@ has one, its name; blank lines; and comments from # on.
     5 1 key
     9 7 receiver
 
-A job's number is its place in the list, from 0. A name begins with a letter
-and goes to the end of the line.
+A job's number is its place in the list, from 0. A name begins with a letter,
+goes to the end of the line, and has at most 40 characters.
 
   -o SHEET      writes the sheet (- is standard output, and no words then)
   --cores N     takes at most N cores, 0 to 8; 8 if left out

@@ -7,6 +7,7 @@ use homvaits::{Job, Place, Refusal, Word};
 use crate::args::decimal;
 use crate::failure::Failure;
 use crate::files::{read_whole, shown};
+use crate::wording::quoted;
 
 /// Bytes that a job list has at most.
 const LONGEST: usize = 1 << 20;
@@ -148,18 +149,18 @@ fn number(what: &str, word: &str) -> Result<u16, String> {
         return Err(format!("the {what} is missing: {FORM}"));
     }
     if !word.bytes().all(|byte| byte.is_ascii_digit()) {
-        let word = word.escape_debug();
+        let word = quoted(word);
         return Err(format!("the {what} {word} is not a number: {FORM}"));
     }
     decimal(word)
         .and_then(|number| u16::try_from(number).ok())
-        .ok_or_else(|| format!("the {what} {word} is above 65535"))
+        .ok_or_else(|| format!("the {what} {} is above 65535", quoted(word)))
 }
 
 /// A name begins with a letter, so that a third number is not taken for one.
 pub fn checked_name(name: &str) -> Result<String, String> {
     if !name.starts_with(char::is_alphabetic) {
-        let name = name.escape_debug();
+        let name = quoted(name);
         return Err(format!(
             "{name} is no name, which begins with a letter: {FORM}"
         ));
@@ -199,11 +200,11 @@ mod tests {
     fn what_is_wrong_with_a_line_is_told() {
         for (text, part) in [
             ("5", "the budget is missing"),
-            ("x 1", "the period x is not a number"),
-            ("5 -1", "the budget -1 is not a number"),
-            ("65536 1", "the period 65536 is above 65535"),
+            ("x 1", "the period `x` is not a number"),
+            ("5 -1", "the budget `-1` is not a number"),
+            ("65536 1", "the period `65536` is above 65535"),
             ("5 99999999999999999999999", "is above 65535"),
-            ("5 1 1", "1 is no name"),
+            ("5 1 1", "`1` is no name"),
             ("5 1 a\u{7}", "control character"),
         ] {
             let told = line(text).unwrap_err();

@@ -12,6 +12,7 @@ mod help;
 mod jobs;
 mod judge;
 mod list;
+mod loads;
 mod log;
 mod margins;
 mod move_sheet;
@@ -112,7 +113,7 @@ fn dispatch(words: Vec<OsString>, out: &mut Out) -> Outcome {
             files::tell(help::GENERAL.trim_end());
             return Ok(FAILED);
         }
-        "help" | "--help" | "-h" => return help(words.next(), out),
+        "help" | "--help" | "-h" => return help(words.as_slice(), out),
         "--version" | "-V" => {
             out.line(concat!("homvaits ", env!("CARGO_PKG_VERSION")));
             return Ok(WELL);
@@ -134,10 +135,16 @@ fn dispatch(words: Vec<OsString>, out: &mut Out) -> Outcome {
     })
 }
 
-fn help(of: Option<OsString>, out: &mut Out) -> Outcome {
+fn help(of: &[OsString], out: &mut Out) -> Outcome {
     let text = match of {
-        Some(name) => command(&name.to_string_lossy())?.help,
-        None => help::GENERAL,
+        [] => help::GENERAL,
+        [name] => command(&name.to_string_lossy())?.help,
+        [_, next, ..] => {
+            let next = wording::quoted(&next.to_string_lossy());
+            return Err(Failure::new(format!(
+                "homvaits help: one command at a time: {next} is one too many"
+            )));
+        }
     };
     out.write(text.as_bytes());
     Ok(WELL)
@@ -149,7 +156,7 @@ fn command(name: &str) -> Result<&'static Command, Failure> {
         let names: Vec<&str> = COMMANDS.iter().map(|command| command.name).collect();
         Failure::new(format!(
             "homvaits: there is no command {}: there are {}, and help",
-            name.escape_debug(),
+            wording::quoted(name),
             names.join(", ")
         ))
     })

@@ -45,12 +45,13 @@ pub fn run(args: &Args, out: &mut Out) -> Outcome {
             out.line(&format!("{}: the log", shown(to)));
         }
     }
-    Ok(status(&made, told.late))
+    Ok(status("run", &made, told.late))
 }
 
-/// Tells what is not well, and the exit status.
-pub fn status(made: &Made, late: bool) -> u8 {
-    made.differences.iter().for_each(|text| tell(text));
+/// Tells the differences, by the name of the command, and the exit status.
+pub fn status(command: &str, made: &Made, late: bool) -> u8 {
+    let tell = |text: &String| tell(&format!("homvaits {command}: {text}"));
+    made.differences.iter().for_each(tell);
     match late || !made.differences.is_empty() {
         true => REFUSED,
         false => WELL,

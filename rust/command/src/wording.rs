@@ -50,3 +50,13 @@ pub fn joined<T: ToString>(things: &[T]) -> String {
         _ => words.concat(),
     }
 }
+
+/// Characters of a wrong word that are shown.
+const SHOWN: usize = 40;
+
+/// A word that someone wrote, as it is shown: on one line, and cut if it is long.
+pub fn quoted(word: &str) -> String {
+    let shown: String = word.chars().take(SHOWN).collect();
+    let rest = if shown.len() < word.len() { ".." } else { "" };
+    format!("`{}{rest}`", shown.escape_debug())
+}

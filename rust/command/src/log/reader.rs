@@ -7,6 +7,7 @@ use crate::args::decimal;
 use crate::failure::Failure;
 use crate::files::{read_whole, shown};
 use crate::jobs::checked_name;
+use crate::wording;
 
 /// Bytes that a log has at most.
 pub const LONGEST: usize = 1 << 28;
@@ -205,9 +206,15 @@ fn read_line(bytes: &[u8]) -> Result<Line, String> {
             let times = number(times, 1, MOST_CALLS as u64)?;
             Ok(Line::Call(Call::Tick, None, times as usize))
         }
+        ["core" | "release" | "finish" | "ticks", ..] => Err(format!(
+            "`{}` has one number behind it, and is followed by {}",
+            words[0],
+            wording::counted(words.len() as u64 - 1, "word")
+        )),
+        ["bench", ..] => Err("`bench` stands alone on its line".to_owned()),
         [word, ..] => Err(format!(
-            "`{}` begins no line of a log: there are core, bench, task, release, finish, tick and ticks",
-            word.escape_debug()
+            "{} begins no line of a log: there are core, bench, task, release, finish, tick and ticks",
+            wording::quoted(word)
         )),
     }
 }
@@ -216,8 +223,8 @@ fn number(word: &str, low: u64, high: u64) -> Result<u64, String> {
     match decimal(word) {
         Some(number) if (low..=high).contains(&number) => Ok(number),
         _ => {
-            let word = word.escape_debug();
-            Err(format!("`{word}` is not a number from {low} to {high}"))
+            let word = wording::quoted(word);
+            Err(format!("{word} is not a number from {low} to {high}"))
         }
     }
 }
@@ -328,7 +335,8 @@ mod tests {
     fn what_is_wrong_with_a_line_is_told() {
         for (text, line, part) in [
             ("jump", 1, "`jump` begins no line"),
-            ("\nrelease", 2, "`release` begins no line"),
+            ("\nrelease", 2, "`release` has one number behind it"),
+            ("core 0 1", 1, "followed by 2 words"),
             ("release x", 1, "`x` is not a number from 0 to 255"),
             ("release 1 no", 1, "`accepted`"),
             ("tick 64", 1, "`64` is not a number from 0 to 63"),

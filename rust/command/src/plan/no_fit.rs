@@ -5,7 +5,7 @@ use homvaits::{Job, Place, Refusal, Sheet};
 use crate::failure::Failure;
 use crate::jobs::JobList;
 use crate::table::{Side, Table};
-use crate::wording::joined;
+use crate::wording::{counted, joined};
 
 /// Why no plan was found: the job by its line, and the cores as they were when its turn came.
 pub fn told(list: &JobList, limit: u8, start: usize, refusal: Refusal) -> Failure {
@@ -15,7 +15,9 @@ pub fn told(list: &JobList, limit: u8, start: usize, refusal: Refusal) -> Failur
     let task = usize::from(task);
     let jobs = list.jobs();
     let needs = match jobs.get(task) {
-        Some(Job { period, budget }) => format!(", {budget} ticks every {period}"),
+        Some(Job { period, budget }) => {
+            format!(", {} every {period}", counted((*budget).into(), "tick"))
+        }
         None => String::new(),
     };
     let mut lines = vec![format!(
