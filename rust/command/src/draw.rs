@@ -104,7 +104,7 @@ fn of_log(args: &Args, path: &OsStr, bytes: &[u8]) -> Result<Made, Failure> {
             return Err(Failure::new(text));
         }
     }
-    make::named(args, logs.iter_mut().flat_map(|log| &mut log.tasks))?;
+    make::named(args, logs.iter_mut().flat_map(|log| &mut log.tasks), None)?;
     Ok(Made {
         logs,
         differences: Vec::new(),

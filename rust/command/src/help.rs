@@ -116,7 +116,7 @@ latest of them ended, within how many the sheet promises it, and what is left
 between the two. Every log goes through the on-time rule.
 
   --core K       runs core K alone
-  --ticks N      so many ticks, 1 to 1000000; if left out twice the longest
+  --ticks N      so many ticks, 1 to 100000; if left out twice the longest
                  period, but at least 40 and at most 2000
   --earliest     releases each task as soon as it may be, and lets each job use
                  its whole budget; this is done if left out
@@ -131,7 +131,8 @@ between the two. Every log goes through the on-time rule.
 A log is text, a call a line: `release 0`, `finish 0`, `tick`, each with its
 answer behind it (`accepted`, `refused 18 place 0`; the task's number or `idle`
 for a tick). Lines without an answer may be given to --calls too, and `ticks 5`
-for five of them. A line `core 1` says whose calls follow. # begins a comment.
+for five of them; 5000000 calls at most. A line `core 1` says whose calls
+follow. # begins a comment.
 Where a line has another answer than the library gives, that is said, and the
 status is 1.
 

@@ -80,10 +80,11 @@ impl Origin {
 }
 
 impl Log {
-    /// How many ticks were not refused.
+    /// How many units of time passed: the ticks that were not refused.
     pub fn ticks(&self) -> usize {
-        let ticked = |entry: &&Entry| matches!(entry.answer, Answer::Ticked(_));
-        self.entries.iter().filter(ticked).count()
+        let passed =
+            |entry: &&Entry| matches!((entry.call, entry.answer), (Call::Tick, Answer::Ticked(_)));
+        self.entries.iter().filter(passed).count()
     }
 
     /// Its lines, which a reader takes back: the core, its tasks, and a call a line.
@@ -102,14 +103,20 @@ impl Log {
             };
         }
         for entry in &self.entries {
-            let _ = match entry.call {
-                Call::Release(task) => write!(text, "release {task} "),
-                Call::Finish(task) => write!(text, "finish {task} "),
-                Call::Tick => write!(text, "tick "),
-            };
-            let _ = writeln!(text, "{}", entry.answer.text());
+            let _ = writeln!(text, "{} {}", entry.call.text(), entry.answer.text());
         }
         text
+    }
+}
+
+impl Call {
+    /// The call as it stands in a log.
+    pub fn text(self) -> String {
+        match self {
+            Call::Release(task) => format!("release {task}"),
+            Call::Finish(task) => format!("finish {task}"),
+            Call::Tick => "tick".to_owned(),
+        }
     }
 }
 

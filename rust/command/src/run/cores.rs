@@ -17,8 +17,12 @@ pub struct Started {
     pub tasks: Vec<Task>,
 }
 
-/// The cores of a sheet, or the one that is named.
-pub fn of_sheet(path: &OsStr, bytes: &[u8], only: Option<u8>) -> Result<Vec<Started>, Failure> {
+/// The cores of a sheet, or the one that is named; and how many tasks the sheet has.
+pub fn of_sheet(
+    path: &OsStr,
+    bytes: &[u8],
+    only: Option<u8>,
+) -> Result<(Vec<Started>, usize), Failure> {
     let sheet = Sheet::check(bytes).map_err(|refusal| {
         let why = wording::refused(refusal, bytes);
         Failure::refused(format!("{}: {why}", shown(path)))
@@ -28,18 +32,19 @@ pub fn of_sheet(path: &OsStr, bytes: &[u8], only: Option<u8>) -> Result<Vec<Star
         Some(core) => core..core + 1,
         None => 0..cores,
     };
-    numbers
-        .map(|number| match Core::start(&sheet, number) {
-            Ok(core) => Ok(started(&sheet, number, core)),
-            Err(refusal) => Err(Failure::new(format!(
-                "--core {number}: refused {} ({}): {} has {}",
-                refusal.number(),
-                refusal.word.name(),
-                shown(path),
-                wording::counted(cores.into(), "core"),
-            ))),
-        })
-        .collect()
+    let cores = numbers.map(|number| match Core::start(&sheet, number) {
+        Ok(core) => Ok(started(&sheet, number, core)),
+        Err(refusal) => Err(Failure::new(format!(
+            "--core {number}: refused {} ({}): {} has {}",
+            refusal.number(),
+            refusal.word.name(),
+            shown(path),
+            wording::counted(cores.into(), "core"),
+        ))),
+    });
+    let started = cores.collect::<Result<_, _>>()?;
+    let tasks = sheet.tasks().len();
+    Ok((started, tasks))
 }
 
 fn started(sheet: &Sheet, number: u8, core: Core) -> Started {

@@ -11,9 +11,10 @@ use crate::jobs::JobList;
 use crate::list::FRONT;
 use crate::log::reader::{Calls, Part, Told};
 use crate::log::{Answer, Log, Origin, Task};
+use crate::wording::counted;
 
 /// Ticks that a run has at most.
-const MOST_TICKS: u64 = 1_000_000;
+const MOST_TICKS: u64 = 100_000;
 
 /// Differences that are told one by one.
 const MOST_DIFFERENCES: usize = 10;
@@ -48,11 +49,9 @@ pub fn runs(args: &Args) -> Result<Made, Failure> {
 pub fn of_bytes(args: &Args, path: &OsStr, bytes: &[u8]) -> Result<Made, Failure> {
     looked_at(args)?;
     let only = args.number("--core", 0, 7)?.map(|core| core as u8);
-    let mut started = cores::of_sheet(path, bytes, only)?;
-    named(
-        args,
-        started.iter_mut().flat_map(|started| &mut started.tasks),
-    )?;
+    let (mut started, tasks) = cores::of_sheet(path, bytes, only)?;
+    let all = started.iter_mut().flat_map(|started| &mut started.tasks);
+    named(args, all, Some(tasks))?;
     drive(args, started)
 }
 
@@ -62,21 +61,30 @@ pub fn bench(args: &Args, path: &OsStr) -> Result<Made, Failure> {
     args.at_most_one(&["--bench", "--core"])?;
     let list = JobList::read(path)?;
     let mut started = vec![cores::of_list(&list)?];
-    named(
-        args,
-        started.iter_mut().flat_map(|started| &mut started.tasks),
-    )?;
+    let all = started.iter_mut().flat_map(|started| &mut started.tasks);
+    named(args, all, Some(list.listed.len()))?;
     drive(args, started)
 }
 
-/// Names tasks by the job list of `--names`, if it is there.
+/// Names tasks by the job list of `--names`, if it is there. It has so many jobs, where that is known.
 pub fn named<'a>(
     args: &Args,
     tasks: impl IntoIterator<Item = &'a mut Task>,
+    count: Option<usize>,
 ) -> Result<(), Failure> {
-    match args.value("--names") {
-        Some(path) => cores::name(tasks, &JobList::read(path)?),
-        None => Ok(()),
+    let Some(path) = args.value("--names") else {
+        return Ok(());
+    };
+    let list = JobList::read(path)?;
+    let jobs = list.listed.len();
+    match count {
+        Some(count) if count != jobs => Err(Failure::new(format!(
+            "{}: it has {}, and what is run has {}: it is another job list",
+            list.file,
+            counted(jobs as u64, "job"),
+            counted(count as u64, "task")
+        ))),
+        _ => cores::name(tasks, &list),
     }
 }
 
@@ -148,10 +156,10 @@ fn told(calls: Calls, started: Vec<Started>, one_core: bool) -> Result<Made, Fai
     let mut logs = Vec::new();
     let mut differences = Vec::new();
     for part in calls.parts.iter().filter(|part| !part.is_empty()) {
-        let Some(core) = core_of(&calls, part, &mut started, one_core)? else {
+        let Some(mut core) = core_of(&calls, part, &mut started, one_core)? else {
             continue;
         };
-        same_tasks(&calls, part, &core)?;
+        same_tasks(&calls, part, &mut core.tasks)?;
         let mut driver = Driver::new(core.core);
         let found = driver.told(&part.calls);
         differences.extend(found.into_iter().map(|found| difference(&calls, found)));
@@ -161,12 +169,14 @@ fn told(calls: Calls, started: Vec<Started>, one_core: bool) -> Result<Made, Fai
             entries: driver.entries,
         });
     }
+    if let (true, [core]) = (one_core, started.as_slice()) {
+        let (file, what) = (&calls.file, core.origin.line());
+        return Err(Failure::new(format!("{file}: there is no line `{what}`")));
+    }
     let more = differences.len().saturating_sub(MOST_DIFFERENCES);
     if more > 0 {
         differences.truncate(MOST_DIFFERENCES);
-        differences.push(format!(
-            "homvaits: and {more} more answers are not the library's"
-        ));
+        differences.push(format!("and {more} more answers are not the library's"));
     }
     Ok(Made { logs, differences })
 }
@@ -199,16 +209,19 @@ fn core_of(
     }
 }
 
-/// The tasks that the calls tell of are those of the core.
-fn same_tasks(calls: &Calls, part: &Part, core: &Started) -> Result<(), Failure> {
+/// The tasks that the calls tell of are those of the core, which take their names from there if they have none.
+fn same_tasks(calls: &Calls, part: &Part, tasks: &mut [Task]) -> Result<(), Failure> {
     let figures = |task: &Task| (task.number, task.period, task.budget, task.within);
-    for (task, line) in &part.tasks {
-        if !core.tasks.iter().any(|own| figures(own) == figures(task)) {
+    for (told, line) in &part.tasks {
+        let Some(task) = tasks.iter_mut().find(|task| figures(task) == figures(told)) else {
             let text = format!(
                 "task {} with these figures is not on this core: the log is of another sheet",
-                task.number
+                told.number
             );
             return Err(calls.wrong(*line, &text));
+        };
+        if task.name.is_none() {
+            task.name.clone_from(&told.name);
         }
     }
     Ok(())
@@ -218,7 +231,5 @@ fn difference(calls: &Calls, (told, answer): (Told, Answer)) -> String {
     let said = told.answer.map_or_else(String::new, Answer::text);
     let answer = answer.text();
     let (file, line) = (&calls.file, told.line);
-    format!(
-        "homvaits: {file}, line {line}: the log says `{said}`, and the library answers `{answer}`"
-    )
+    format!("{file}, line {line}: the log says `{said}`, and the library answers `{answer}`")
 }

@@ -41,14 +41,16 @@ pub fn told(logs: &[Log]) -> Told {
     }
 }
 
-/// A task's line. The end of a job that is pending and late is not known: it comes after more ticks than have passed.
+/// A task's line. Of a late job that is pending, or was finished when its last tick had begun, is known only that it ends after more
+/// ticks than that.
 fn row(origin: Origin, task: &Task, tally: Tally) -> Vec<String> {
-    let within = i64::from(task.within);
-    let margin = |ticks: usize| within - ticks as i64;
-    let waits = tally
-        .pending
-        .filter(|&ticks| ticks >= usize::from(task.within));
-    let (latest, margin) = match (waits, tally.latest) {
+    let within = usize::from(task.within);
+    let margin = |ticks: usize| within as i64 - ticks as i64;
+    let pending = tally.pending.filter(|&ticks| ticks >= within);
+    let finished = tally
+        .latest
+        .filter(|&latest| tally.late > 0 && latest == within);
+    let (latest, margin) = match (pending.max(finished), tally.latest) {
         (Some(ticks), latest) if latest.is_none_or(|latest| latest <= ticks) => {
             (format!("over {ticks}"), format!("below {}", margin(ticks)))
         }
