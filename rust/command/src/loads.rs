@@ -1,93 +1,47 @@
 //! The loads of an accepted sheet.
 
-use std::iter::{repeat_n, zip};
-
-use crate::wording::is_grouped;
-
-const HEADER: usize = 8;
-const TASK: usize = 10;
-const CORE: usize = 8;
+use crate::fields::{Fields, Task};
 
 /// The load of each core in thousandths, rounded up (SHEET.md, sections 3 and 8), in time linear in the number of tasks. The bytes are
 /// those of a sheet that the library has accepted; the figures of any others say nothing.
 pub fn loads(sheet: &[u8]) -> Vec<u16> {
-    let Some((tasks, cores)) = records(sheet) else {
-        return Vec::new();
-    };
-    let core_of = cores_of_tasks(sheet, tasks, cores);
-    let last = last_factors(tasks, &core_of, cores.len() / CORE);
-    let work = work(tasks, &core_of, &last);
-    let figures = zip(last, work);
-    zip(cores.chunks_exact(CORE), figures)
-        .map(|(core, (last, work))| load(core, last, work))
+    let fields = Fields::new(sheet);
+    let tasks: Vec<Task> = fields.tasks().collect();
+    let cores = fields.cores();
+    // L of each core: each factor is a multiple of the one before it by priority, so the last is the largest
+    let mut last = vec![1; fields.layout.cores.into()];
+    for task in &tasks {
+        if let Some(last) = own(&mut last, task) {
+            *last = task.factor.max(*last);
+        }
+    }
+    // the sum of e x (L / M), which is below 2^56 for at most 255 tasks of any figures
+    let mut work = vec![0; last.len()];
+    for task in &tasks {
+        if let (Some(last), Some(work)) = (own(&mut last, task), own(&mut work, task)) {
+            let times = last.checked_div(task.factor).unwrap_or(0);
+            *work += u64::from(task.budget) * u64::from(times);
+        }
+    }
+    let figures = last.into_iter().zip(work);
+    cores
+        .zip(figures)
+        .map(|(core, (last, work))| load(core.pivot, core.divisor, last, work))
         .collect()
 }
 
-/// The bytes of the task records and of the core records.
-fn records(sheet: &[u8]) -> Option<(&[u8], &[u8])> {
-    let tasks = TASK * usize::from(*sheet.get(5)?);
-    let cores = CORE * usize::from(*sheet.get(6)?);
-    let (tasks, rest) = sheet.get(HEADER..)?.split_at_checked(tasks)?;
-    Some((tasks, rest.get(..cores)?))
+/// What a column of the cores has for the core of a task.
+fn own<'a, T>(column: &'a mut [T], task: &Task) -> Option<&'a mut T> {
+    column.get_mut(usize::from(task.core?))
 }
 
-/// The core of each task, as the records stand: in version 1 each task names it, in version 2 each core has a count of tasks.
-fn cores_of_tasks(sheet: &[u8], tasks: &[u8], cores: &[u8]) -> Vec<usize> {
-    let numbered = cores.chunks_exact(CORE).enumerate();
-    match is_grouped(sheet) {
-        true => numbered
-            .flat_map(|(number, core)| repeat_n(number, usize::from(core[2])))
-            .collect(),
-        false => tasks
-            .chunks_exact(TASK)
-            .map(|task| usize::from(task[4]))
-            .collect(),
-    }
-}
-
-/// L of each core: each factor is a multiple of the one before it by priority, so the last is the largest.
-fn last_factors(tasks: &[u8], core_of: &[usize], cores: usize) -> Vec<u32> {
-    let mut last = vec![1; cores];
-    for (task, &core) in zip(tasks.chunks_exact(TASK), core_of) {
-        if let Some(last) = last.get_mut(core) {
-            *last = factor(task).max(*last);
-        }
-    }
-    last
-}
-
-/// The sum of e × (L / M) for each core. From at most 255 tasks of any figures it is below 2^56.
-fn work(tasks: &[u8], core_of: &[usize], last: &[u32]) -> Vec<u64> {
-    let mut work = vec![0; last.len()];
-    for (task, &core) in zip(tasks.chunks_exact(TASK), core_of) {
-        if let (Some(work), Some(last)) = (work.get_mut(core), last.get(core)) {
-            let times = last.checked_div(factor(task)).unwrap_or(0);
-            *work += u64::from(word(task, 2)) * u64::from(times);
-        }
-    }
-    work
-}
-
-fn load(core: &[u8], last: u32, work: u64) -> u16 {
-    let (pivot, divisor) = (word(core, 0), long(core, 4));
+fn load(pivot: u16, divisor: u32, last: u32, work: u64) -> u16 {
     let all = u64::from(pivot) * u64::from(last);
     let used = work.saturating_mul(1000 * u64::from(divisor));
     match all {
         0 => u16::MAX,
         _ => u16::try_from(used.div_ceil(all)).unwrap_or(u16::MAX),
     }
-}
-
-fn factor(task: &[u8]) -> u32 {
-    long(task, 6)
-}
-
-fn word(record: &[u8], at: usize) -> u16 {
-    u16::from_le_bytes([record[at], record[at + 1]])
-}
-
-fn long(record: &[u8], at: usize) -> u32 {
-    u32::from(word(record, at)) | u32::from(word(record, at + 2)) << 16
 }
 
 #[cfg(test)]

@@ -22,7 +22,7 @@ pub fn move_sheet(args: &Args, out: &mut Out) -> Outcome {
     let bytes = read_front(path, FRONT)?;
     let moved = homvaits::move_sheet(&bytes).map_err(|refusal| {
         Failure::refused(format!(
-            "{}: {}",
+            "{}: {}; `homvaits explain` tells more",
             shown(path),
             wording::refused(refusal, &bytes)
         ))

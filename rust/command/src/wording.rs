@@ -2,6 +2,8 @@
 
 use homvaits::{Place, Refusal};
 
+use crate::fields::Fields;
+
 /// Whether bytes say that they are a sheet of version 2, in whose refusals tasks go by position.
 pub fn is_grouped(bytes: &[u8]) -> bool {
     bytes.get(3..5) == Some(&[2, 0])
@@ -31,6 +33,22 @@ pub fn refused(refusal: Refusal, bytes: &[u8]) -> String {
         word.number(),
         word.name(),
         word.text()
+    )
+}
+
+/// An accepted sheet: `accepted: version 1, 10 tasks on 2 cores, loads 953 and 720`, the loads in thousandths.
+pub fn accepted(bytes: &[u8], loads: &[u16]) -> String {
+    let layout = Fields::new(bytes).layout;
+    let loads = match loads {
+        [] => String::new(),
+        [load] => format!(", load {load}"),
+        loads => format!(", loads {}", joined(loads)),
+    };
+    format!(
+        "accepted: version {}, {} on {}{loads}",
+        layout.version(),
+        counted(layout.tasks.into(), "task"),
+        counted(layout.cores.into(), "core")
     )
 }
 

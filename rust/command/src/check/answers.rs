@@ -4,7 +4,7 @@ use std::fs::File;
 use std::io::{self, ErrorKind, Read};
 use std::path::Path;
 
-use homvaits::{Counts, Refusal};
+use homvaits::Refusal;
 
 use super::json;
 use super::tally::Tally;
@@ -12,7 +12,7 @@ use super::walk::Found;
 use crate::files::{shown, words};
 use crate::list::FRONT;
 use crate::loads::loads;
-use crate::wording::{self, counted, joined};
+use crate::wording;
 
 /// How the answers are given.
 #[derive(Clone, Copy)]
@@ -23,7 +23,7 @@ pub struct Style {
 
 /// What is said of a file.
 pub enum Verdict<'a> {
-    Accepted(Counts, &'a [u8]),
+    Accepted(&'a [u8]),
     Refused(Refusal, &'a [u8]),
     NotRead(Box<str>),
 }
@@ -77,7 +77,7 @@ fn verdict<'a>(file: &Found, room: &'a mut [u8; FRONT]) -> Verdict<'a> {
         Err(error) => return Verdict::NotRead(words(&error).into()),
     };
     match homvaits::check(bytes) {
-        Ok(counts) => Verdict::Accepted(counts, bytes),
+        Ok(_) => Verdict::Accepted(bytes),
         Err(refusal) => Verdict::Refused(refusal, bytes),
     }
 }
@@ -106,34 +106,13 @@ fn read_all(mut from: impl Read, room: &mut [u8]) -> io::Result<usize> {
 /// Adds the line of a sheet. What could not be read has none.
 fn add_line(text: &mut String, path: &Path, verdict: &Verdict) {
     let verdict = match verdict {
-        Verdict::Accepted(counts, bytes) => accepted(*counts, bytes),
+        Verdict::Accepted(bytes) => wording::accepted(bytes, &loads(bytes)),
         Verdict::Refused(refusal, bytes) => wording::refused(*refusal, bytes),
         Verdict::NotRead(_) => return,
     };
     for part in [&shown(path.as_os_str()), ": ", &verdict, "\n"] {
         text.push_str(part);
     }
-}
-
-/// `accepted: version 1, 10 tasks on 2 cores, loads 953 and 720`
-fn accepted(counts: Counts, bytes: &[u8]) -> String {
-    let loads = loads(bytes);
-    let loads = match loads.as_slice() {
-        [] => String::new(),
-        [load] => format!(", load {load}"),
-        loads => format!(", loads {}", joined(loads)),
-    };
-    format!(
-        "accepted: version {}, {} on {}{loads}",
-        version(bytes),
-        counted(u64::from(counts.tasks), "task"),
-        counted(u64::from(counts.cores), "core")
-    )
-}
-
-/// The version of an accepted sheet.
-pub fn version(bytes: &[u8]) -> u8 {
-    bytes.get(3).copied().unwrap_or(0)
 }
 
 #[cfg(test)]

@@ -2,8 +2,9 @@
 
 use std::path::Path;
 
-use super::answers::{version, Verdict};
+use super::answers::Verdict;
 use super::tally::Tally;
+use crate::fields::Fields;
 use crate::loads::loads;
 use crate::wording;
 
@@ -18,13 +19,16 @@ pub fn add_sheet(text: &mut String, path: &Path, verdict: &Verdict) {
     text.push_str("\n{\"path\":");
     add_string(text, &path.to_string_lossy());
     match verdict {
-        Verdict::Accepted(counts, bytes) => text.push_str(&format!(
-            ",\"accepted\":true,\"version\":{},\"tasks\":{},\"cores\":{},\"loads\":[{}]}}",
-            version(bytes),
-            counts.tasks,
-            counts.cores,
-            commas(&loads(bytes))
-        )),
+        Verdict::Accepted(bytes) => {
+            let layout = Fields::new(bytes).layout;
+            text.push_str(&format!(
+                ",\"accepted\":true,\"version\":{},\"tasks\":{},\"cores\":{},\"loads\":[{}]}}",
+                layout.version(),
+                layout.tasks,
+                layout.cores,
+                commas(&loads(bytes))
+            ));
+        }
         Verdict::Refused(refusal, bytes) => {
             text.push_str(&format!(
                 ",\"accepted\":false,\"refusal\":{},\"word\":\"{}\",\"place\":{},\"where\":",
@@ -86,7 +90,7 @@ mod tests {
 
     fn sheet(path: &[u8], bytes: &[u8]) -> String {
         let verdict = match homvaits::check(bytes) {
-            Ok(counts) => Verdict::Accepted(counts, bytes),
+            Ok(_) => Verdict::Accepted(bytes),
             Err(refusal) => Verdict::Refused(refusal, bytes),
         };
         let mut text = String::new();

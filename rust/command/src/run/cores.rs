@@ -25,7 +25,10 @@ pub fn of_sheet(
 ) -> Result<(Vec<Started>, usize), Failure> {
     let sheet = Sheet::check(bytes).map_err(|refusal| {
         let why = wording::refused(refusal, bytes);
-        Failure::refused(format!("{}: {why}", shown(path)))
+        Failure::refused(format!(
+            "{}: {why}; `homvaits explain` tells more",
+            shown(path)
+        ))
     })?;
     let cores = sheet.cores().len() as u8;
     let numbers = match only {
