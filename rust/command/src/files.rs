@@ -2,7 +2,7 @@
 
 use std::ffi::OsStr;
 use std::fs::{self, File, OpenOptions};
-use std::io::{self, ErrorKind, Read, Write};
+use std::io::{self, ErrorKind, IsTerminal, Read, Write};
 use std::path::{Path, PathBuf};
 
 use crate::failure::Failure;
@@ -66,6 +66,16 @@ pub fn read_whole(path: &OsStr, limit: usize) -> Result<Vec<u8>, Failure> {
     Ok(bytes)
 }
 
+/// A sheet is not written to a terminal.
+pub fn not_to_terminal(to: &OsStr) -> Result<(), Failure> {
+    match to == "-" && io::stdout().is_terminal() {
+        true => Err(Failure::new(
+            "a sheet is no text: write it with -o to a file, or pipe it",
+        )),
+        false => Ok(()),
+    }
+}
+
 /// Writes a file whole or not at all: beside it, and then in its place. What is no file, such as a device, is written as it stands.
 pub fn replace(path: &OsStr, bytes: &[u8]) -> Result<(), Failure> {
     let write = || match fs::metadata(path) {
@@ -74,14 +84,26 @@ pub fn replace(path: &OsStr, bytes: &[u8]) -> Result<(), Failure> {
             .write(true)
             .open(path)
             .and_then(|mut file| file.write_all(bytes)),
-        // behind links, so that a link stays one
-        Ok(there) => write_beside(&fs::canonicalize(path)?, bytes, Some(there.permissions())),
-        Err(error) if error.kind() == ErrorKind::NotFound => {
-            write_beside(Path::new(path), bytes, None)
+        Ok(there) => write_beside(&behind_links(path)?, bytes, Some(there.permissions())),
+        Err(error) if error.kind() == ErrorKind::NotFound && !path.is_empty() => {
+            write_beside(&behind_links(path)?, bytes, None)
         }
         Err(error) => Err(error),
     };
     write().map_err(|error| failed(path, &error))
+}
+
+/// The path of what a link names, be it there or not, so that the link stays one.
+fn behind_links(path: &OsStr) -> io::Result<PathBuf> {
+    let mut path = PathBuf::from(path);
+    // the system follows 40 at most
+    for _ in 0..40 {
+        match fs::read_link(&path) {
+            Ok(next) => path = path.parent().unwrap_or(Path::new("")).join(next),
+            Err(_) => return Ok(path),
+        }
+    }
+    Err(ErrorKind::InvalidInput.into())
 }
 
 fn write_beside(path: &Path, bytes: &[u8], permissions: Option<fs::Permissions>) -> io::Result<()> {

@@ -1,11 +1,10 @@
 //! `homvaits move`: the sheet of the other version.
 
 use std::ffi::OsStr;
-use std::io::{self, IsTerminal};
 
 use crate::args::{valued, Args, OptionSpec};
 use crate::failure::{Failure, Outcome, WELL};
-use crate::files::{read_front, replace, shown, Out};
+use crate::files::{not_to_terminal, read_front, replace, shown, Out};
 use crate::list::FRONT;
 use crate::wording;
 
@@ -14,11 +13,7 @@ pub const OPTIONS: &[OptionSpec] = &[valued("-o", "MOVED")];
 pub fn move_sheet(args: &Args, out: &mut Out) -> Outcome {
     let path = args.one_file("sheet")?;
     let to = args.value("-o").unwrap_or(OsStr::new("-"));
-    if to == "-" && io::stdout().is_terminal() {
-        return Err(Failure::new(
-            "a sheet is no text: write it with -o MOVED, or to a file or a pipe",
-        ));
-    }
+    not_to_terminal(to)?;
     let bytes = read_front(path, FRONT)?;
     let moved = homvaits::move_sheet(&bytes).map_err(|refusal| {
         Failure::refused(format!(

@@ -9,7 +9,7 @@ use homvaits::{Refusal, Sheet, Word};
 
 use crate::args::{flag, valued, Args, OptionSpec};
 use crate::failure::{Failure, Outcome, WELL};
-use crate::files::{replace, shown, Out};
+use crate::files::{not_to_terminal, replace, shown, Out};
 use crate::jobs::JobList;
 use crate::table::{Side, Table};
 use crate::wording::{counted, joined};
@@ -27,6 +27,7 @@ pub fn plan(args: &Args, out: &mut Out) -> Outcome {
     let start = args.number("--start", 0, 63)?.unwrap_or(0) as usize;
     let list = JobList::read(args.one_file("job list")?)?;
     let to = args.value("-o");
+    not_to_terminal(to.unwrap_or_default())?;
     let mut words = Vec::new();
     let planned = match args.has("--all-starts") {
         true => starts::best(&list, limit, &mut words),
