@@ -18,13 +18,6 @@ use crate::run;
 use crate::run::make::{self, Made};
 
 pub const OPTIONS: &[OptionSpec] = &[
-    valued("--core", "K"),
-    valued("--ticks", "N"),
-    flag("--earliest"),
-    valued("--random", "SEED"),
-    valued("--calls", "FILE"),
-    valued("--names", "JOBS"),
-    flag("--bench"),
     valued("-o", "PICTURE"),
     flag("--text"),
     valued("--width", "N"),

@@ -47,33 +47,8 @@ fn load(pivot: u16, divisor: u32, last: u32, work: u64) -> u16 {
 #[cfg(test)]
 mod tests {
     use super::*;
+    use crate::rng::Rng;
     use homvaits::{move_sheet, plan, Job, Sheet};
-
-    /// Numbers below a bound, by a linear congruence.
-    struct Numbers(u64);
-
-    impl Numbers {
-        fn below(&mut self, bound: u64) -> u64 {
-            let next = self.0.wrapping_mul(6_364_136_223_846_793_005);
-            self.0 = next.wrapping_add(1_442_695_040_888_963_407);
-            (self.0 >> 33) % bound
-        }
-
-        fn jobs(&mut self) -> Vec<Job> {
-            let longest = [12, 300, 60_000][self.below(3) as usize];
-            let share = 1 + self.below(40);
-            let count = self.below(65);
-            let job = |_| {
-                let period = 1 + self.below(longest);
-                let budget = 1 + self.below((2 * period / share).clamp(1, period));
-                Job {
-                    period: period as u16,
-                    budget: budget as u16,
-                }
-            };
-            (0..count).map(job).collect()
-        }
-    }
 
     fn figures(sheet: &Sheet) -> Vec<u16> {
         sheet.cores().map(|core| core.load).collect()
@@ -81,7 +56,7 @@ mod tests {
 
     #[test]
     fn they_are_those_of_the_wrapper_in_both_versions() {
-        let mut numbers = Numbers(1);
+        let mut numbers = Rng(1);
         let (mut planned, mut full) = (0, 0);
         for _ in 0..3000 {
             let jobs = numbers.jobs();
@@ -113,7 +88,7 @@ mod tests {
 
     #[test]
     fn any_bytes_have_an_answer() {
-        let mut numbers = Numbers(2);
+        let mut numbers = Rng(2);
         for _ in 0..20_000 {
             let length = numbers.below(800);
             let mut bytes: Vec<u8> = (0..length).map(|_| numbers.below(256) as u8).collect();

@@ -17,6 +17,7 @@ mod log;
 mod margins;
 mod move_sheet;
 mod plan;
+mod rng;
 mod run;
 mod table;
 mod wording;
@@ -33,7 +34,8 @@ use files::Out;
 struct Command {
     name: &'static str,
     help: &'static str,
-    options: &'static [OptionSpec],
+    /// In groups, of which commands share some.
+    options: &'static [&'static [OptionSpec]],
     work: fn(&Args, &mut Out) -> Outcome,
 }
 
@@ -41,7 +43,7 @@ const COMMANDS: [Command; 8] = [
     Command {
         name: "check",
         help: help::CHECK,
-        options: check::OPTIONS,
+        options: &[check::OPTIONS],
         work: check::check,
     },
     Command {
@@ -59,7 +61,7 @@ const COMMANDS: [Command; 8] = [
     Command {
         name: "plan",
         help: help::PLAN,
-        options: plan::OPTIONS,
+        options: &[plan::OPTIONS],
         work: plan::plan,
     },
     Command {
@@ -71,19 +73,19 @@ const COMMANDS: [Command; 8] = [
     Command {
         name: "move",
         help: help::MOVE,
-        options: move_sheet::OPTIONS,
+        options: &[move_sheet::OPTIONS],
         work: move_sheet::move_sheet,
     },
     Command {
         name: "run",
         help: help::RUN,
-        options: run::OPTIONS,
+        options: &[run::make::OPTIONS, run::OPTIONS],
         work: run::run,
     },
     Command {
         name: "draw",
         help: help::DRAW,
-        options: draw::OPTIONS,
+        options: &[run::make::OPTIONS, draw::OPTIONS],
         work: draw::draw,
     },
 ];
@@ -128,7 +130,7 @@ fn dispatch(words: Vec<OsString>, out: &mut Out) -> Outcome {
         out.write(command.help.as_bytes());
         return Ok(WELL);
     }
-    let work = || (command.work)(&Args::parse(words, command.options)?, out);
+    let work = || (command.work)(&Args::parse(words, &command.options.concat())?, out);
     work().map_err(|failure| Failure {
         text: format!("homvaits {}: {}", command.name, failure.text),
         ..failure

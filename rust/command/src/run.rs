@@ -7,22 +7,13 @@ mod tally;
 
 use std::ffi::OsStr;
 
-use crate::args::{flag, valued, Args, OptionSpec};
+use crate::args::{valued, Args, OptionSpec};
 use crate::failure::{Outcome, REFUSED, WELL};
 use crate::files::{replace, shown, tell, Out};
 use crate::log::{Log, FIRST_LINE};
 use make::Made;
 
-pub const OPTIONS: &[OptionSpec] = &[
-    valued("--core", "K"),
-    valued("--ticks", "N"),
-    flag("--earliest"),
-    valued("--random", "SEED"),
-    valued("--calls", "FILE"),
-    valued("--names", "JOBS"),
-    flag("--bench"),
-    valued("-o", "LOG"),
-];
+pub const OPTIONS: &[OptionSpec] = &[valued("-o", "LOG")];
 
 pub fn run(args: &Args, out: &mut Out) -> Outcome {
     let made = make::runs(args)?;

@@ -2,6 +2,8 @@
 
 use homvaits::{move_sheet, plan, Job};
 
+pub use crate::rng::Rng;
+
 /// Section 10: two tasks that fill one core.
 pub const FULL: [u8; 36] = [
     b'T', b'S', b'H', 1, 0, 2, 1, 0, // header
@@ -44,29 +46,12 @@ pub fn chained(factor: u8) -> Vec<u8> {
     .concat()
 }
 
-/// Splitmix64.
-pub struct Rng(pub u64);
-
 impl Rng {
-    /// A number from `low` to `high`, both included.
-    pub fn range(&mut self, low: u64, high: u64) -> u64 {
-        self.0 = self.0.wrapping_add(0x9E37_79B9_7F4A_7C15);
-        let mut z = self.0;
-        z = (z ^ (z >> 30)).wrapping_mul(0xBF58_476D_1CE4_E5B9);
-        z = (z ^ (z >> 27)).wrapping_mul(0x94D0_49BB_1331_11EB);
-        low + (z ^ (z >> 31)) % (high - low + 1)
-    }
-
     fn byte(&mut self) -> u8 {
         self.range(0, 255) as u8
     }
 
-    /// Whether one in so many times.
-    fn once_in(&mut self, times: u64) -> bool {
-        self.range(1, times) == 1
-    }
-
-    fn jobs(&mut self) -> Vec<Job> {
+    pub fn jobs(&mut self) -> Vec<Job> {
         let longest = [6, 12, 300, 60_000][self.range(0, 3) as usize];
         let share = self.range(2, 20);
         (0..self.range(0, 24))

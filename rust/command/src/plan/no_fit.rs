@@ -88,6 +88,7 @@ fn loads(numbers: &[usize], sheet: &Sheet) -> Vec<String> {
 #[cfg(test)]
 mod tests {
     use super::*;
+    use crate::rng::Rng;
     use homvaits::{plan, Word};
 
     fn job(period: u16, budget: u16) -> Job {
@@ -100,17 +101,11 @@ mod tests {
         assert_eq!(ring(&[job(8, 1), job(4, 1), job(2, 1)]), [0, 1, 2]);
     }
 
-    /// Jobs that are many for their cores, by a small generator.
-    fn jobs(seed: &mut u64, count: u64) -> Vec<Job> {
-        let mut next = |end: u64| {
-            *seed = seed
-                .wrapping_mul(6364136223846793005)
-                .wrapping_add(1442695040888963407);
-            (*seed >> 33) % end
-        };
+    /// Jobs that are many for their cores.
+    fn jobs(rng: &mut Rng, count: u64) -> Vec<Job> {
         let any = |_| {
-            let period = 1 + next(40);
-            job(period as u16, 1 + next(period.div_ceil(2)) as u16)
+            let period = rng.range(1, 40);
+            job(period as u16, rng.range(1, period.div_ceil(2)) as u16)
         };
         (0..count).map(any).collect()
     }
@@ -118,10 +113,10 @@ mod tests {
     /// The jobs before the one without a core have a plan on all cores that are allowed, and with it they have none.
     #[test]
     fn the_jobs_before_it_fill_the_cores() {
-        let mut seed = 1;
+        let mut rng = Rng(1);
         let mut refused = 0;
         for round in 0..3_000 {
-            let jobs = jobs(&mut seed, 2 + round % 9);
+            let jobs = jobs(&mut rng, 2 + round % 9);
             let (limit, start) = (1 + (round % 3) as u8, round as usize % jobs.len());
             let Err(refusal) = plan(&jobs, limit, start) else {
                 continue;

@@ -35,18 +35,15 @@ pub fn best(list: &JobList, limit: u8, lines: &mut Vec<String>) -> Result<(Sheet
         )));
     };
     let fewest = sheet.cores().len();
-    let starts: Vec<usize> = planned
-        .filter(|(_, sheet)| sheet.cores().len() == fewest)
-        .map(|(start, _)| start)
-        .collect();
-    let from = match starts.len() {
-        1 => "from start",
-        _ => "from the starts",
-    };
-    lines.push(format!(
-        "the fewest cores: {fewest}, {from} {}",
-        joined(&starts)
-    ));
+    let few = planned.filter(|(_, sheet)| sheet.cores().len() == fewest);
+    let starts: Vec<usize> = few.map(|(start, _)| start).collect();
+    lines.push(match starts.as_slice() {
+        [start] => format!("the fewest cores: {fewest}, from start {start}"),
+        _ => format!(
+            "the fewest cores: {fewest}, from the starts {}",
+            joined(&starts)
+        ),
+    });
     Ok((sheet.clone(), start))
 }
 

@@ -4,6 +4,7 @@ use homvaits::Core;
 
 use crate::log::reader::Told;
 use crate::log::{Answer, Call, Entry};
+use crate::rng::Rng;
 
 /// A core, and what has happened on it.
 pub struct Driver {
@@ -87,22 +88,5 @@ impl Driver {
             }
         }
         differences
-    }
-}
-
-/// Splitmix64.
-struct Rng(u64);
-
-impl Rng {
-    fn below(&mut self, end: u64) -> u64 {
-        self.0 = self.0.wrapping_add(0x9E37_79B9_7F4A_7C15);
-        let mut z = self.0;
-        z = (z ^ (z >> 30)).wrapping_mul(0xBF58_476D_1CE4_E5B9);
-        z = (z ^ (z >> 27)).wrapping_mul(0x94D0_49BB_1331_11EB);
-        (z ^ (z >> 31)) % end.max(1)
-    }
-
-    fn once_in(&mut self, times: u64) -> bool {
-        self.below(times) == 0
     }
 }

@@ -4,7 +4,7 @@ use std::ffi::OsStr;
 
 use super::cores::{self, Started};
 use super::driver::Driver;
-use crate::args::Args;
+use crate::args::{flag, valued, Args, OptionSpec};
 use crate::failure::Failure;
 use crate::files::read_front;
 use crate::jobs::JobList;
@@ -12,6 +12,17 @@ use crate::list::FRONT;
 use crate::log::reader::{Calls, Part, Told};
 use crate::log::{Answer, Log, Origin, Task};
 use crate::wording::counted;
+
+/// What says which runs are made.
+pub const OPTIONS: &[OptionSpec] = &[
+    valued("--core", "K"),
+    valued("--ticks", "N"),
+    flag("--earliest"),
+    valued("--random", "SEED"),
+    valued("--calls", "FILE"),
+    valued("--names", "JOBS"),
+    flag("--bench"),
+];
 
 /// Ticks that a run has at most.
 const MOST_TICKS: u64 = 100_000;

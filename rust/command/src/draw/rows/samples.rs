@@ -6,26 +6,11 @@ use homvaits::{plan, Core, Job, Refusal};
 
 use crate::judge;
 use crate::log::{Answer, Call, Entry, Log, Origin, Task};
-
-/// Splitmix64.
-pub struct Rng(pub u64);
+pub use crate::rng::Rng;
 
 impl Rng {
-    /// A number from `low` to `high`, both included.
-    pub fn range(&mut self, low: u64, high: u64) -> u64 {
-        self.0 = self.0.wrapping_add(0x9E37_79B9_7F4A_7C15);
-        let mut z = self.0;
-        z = (z ^ (z >> 30)).wrapping_mul(0xBF58_476D_1CE4_E5B9);
-        z = (z ^ (z >> 27)).wrapping_mul(0x94D0_49BB_1331_11EB);
-        low + (z ^ (z >> 31)) % (high - low + 1)
-    }
-
-    fn one_in(&mut self, count: u64) -> bool {
-        self.range(1, count) == 1
-    }
-
     /// 1 to 12 jobs of which each needs about so many hundredths of a core.
-    fn jobs(&mut self, share: u64) -> Vec<Job> {
+    fn jobs_of_share(&mut self, share: u64) -> Vec<Job> {
         let longest = [8, 40, 300][self.range(0, 2) as usize];
         let mut job = || {
             let period = self.range(1, longest);
@@ -42,7 +27,7 @@ impl Rng {
 
 /// Runs of all cores of a planned sheet.
 pub fn planned(rng: &mut Rng, ticks: usize) -> Vec<Log> {
-    let jobs = rng.jobs(20);
+    let jobs = rng.jobs_of_share(20);
     // one job alone always passes
     let sheet = plan(&jobs, 8, 0)
         .or_else(|_| plan(&jobs[..1], 8, 0))
@@ -68,7 +53,7 @@ pub fn planned(rng: &mut Rng, ticks: usize) -> Vec<Log> {
 
 /// A run of a job list on the bench, where jobs may be late.
 pub fn bench(rng: &mut Rng, ticks: usize) -> Log {
-    let jobs = rng.jobs(60);
+    let jobs = rng.jobs_of_share(60);
     let mut running = Core::start_list(&jobs).unwrap();
     let tasks = running.tasks().iter();
     Log {
@@ -112,7 +97,7 @@ fn drive(core: &mut Core, rng: &mut Rng, ticks: usize) -> Vec<Entry> {
 fn calls(core: &mut Core, rng: &mut Rng, entries: &mut Vec<Entry>) {
     let numbers: Vec<u8> = core.tasks().iter().map(|task| task.number).collect();
     let unlisted = rng.range(0, 63) as u8;
-    let unlisted = Some(unlisted).filter(|_| rng.one_in(30));
+    let unlisted = Some(unlisted).filter(|_| rng.once_in(30));
     for number in numbers.into_iter().chain(unlisted) {
         let task = core.tasks().iter().find(|task| task.number == number);
         let task = task.copied();
@@ -125,13 +110,13 @@ fn calls(core: &mut Core, rng: &mut Rng, entries: &mut Vec<Entry>) {
             };
             entries.push(Entry { call, answer });
         };
-        if (pending && rng.one_in(15)) || rng.one_in(80) {
+        if (pending && rng.once_in(15)) || rng.once_in(80) {
             call(Call::Finish(number), core.finish(number));
         }
-        if (ready && !rng.one_in(3)) || rng.one_in(40) || task.is_none() {
+        if (ready && !rng.once_in(3)) || rng.once_in(40) || task.is_none() {
             call(Call::Release(number), core.release(number));
         }
-        if rng.one_in(100) {
+        if rng.once_in(100) {
             call(Call::Finish(number), core.finish(number));
         }
     }
