@@ -141,7 +141,7 @@ Status 1 if a sheet or list is refused, a job is late or an answer is another.
 
 pub const DRAW: &str = "\
 usage: homvaits draw SHEET [OPTIONS]
-       homvaits draw LOG [--core K] [--names JOBS] [-o PICTURE] [--text [--width N]]
+       homvaits draw LOG [--core K] [--names JOBS] [-o PICTURE] [--text]
 
 Draws a run as an SVG picture: a row for each task in order of priority, with
 its releases, the ticks that it ran, the moment by which each job must have

@@ -208,15 +208,19 @@ fn call(marks: &u8) -> char {
     }
 }
 
-/// A label in printable ASCII, in so many columns.
+/// A label in so many columns, of letters that each take one.
 fn shortened(label: &str, room: usize) -> String {
-    let printable = |letter: char| match letter {
-        ' '..='~' => letter,
+    let one_column = |letter: char| match letter {
+        '\u{ad}' | '\u{300}'..='\u{36f}' | '\u{483}'..='\u{489}' => '?',
+        ' '..='~' | '\u{a1}'..='\u{52f}' => letter,
         _ => '?',
     };
-    let label: String = label.chars().map(printable).collect();
+    let label: Vec<char> = label.chars().map(one_column).collect();
     match label.get(..room.saturating_sub(2)) {
-        Some(front) if label.len() > room => format!("{}..", front.trim_end()),
-        _ => label,
+        Some(front) if label.len() > room => {
+            let front: String = front.iter().collect();
+            format!("{}..", front.trim_end())
+        }
+        _ => label.iter().collect(),
     }
 }

@@ -127,7 +127,7 @@ impl Calls {
         let mut logs = Vec::new();
         for part in self.parts.iter().filter(|part| !part.is_empty()) {
             let Some((origin, _)) = part.origin else {
-                return Err(self.wrong(1, "no line `core K` says which core it is of"));
+                return Err(self.wrong(part.line(), "no line `core K` says which core it is of"));
             };
             let entry = |told: &Told| match told.answer {
                 Some(answer) => Ok(Entry {
@@ -156,6 +156,14 @@ impl Part {
     /// Whether nothing is told at all.
     pub fn is_empty(&self) -> bool {
         *self == Part::default()
+    }
+
+    /// The line with which it begins.
+    pub fn line(&self) -> u32 {
+        let origin = self.origin.map(|(_, line)| line);
+        let task = self.tasks.first().map(|(_, line)| *line);
+        let call = self.calls.first().map(|told| told.line);
+        origin.or(task).or(call).unwrap_or(1)
     }
 
     fn add_task(&mut self, task: Task, line: u32) -> Result<(), String> {

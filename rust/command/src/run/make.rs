@@ -202,9 +202,9 @@ fn core_of(
     let Some((origin, line)) = part.origin else {
         return match started.len() {
             1 => Ok(started.pop()),
-            0 => Err(calls.wrong(1, "the sheet has no core to run the calls on")),
+            0 => Err(calls.wrong(part.line(), "the sheet has no core to run the calls on")),
             cores => Err(calls.wrong(
-                1,
+                part.line(),
                 &format!("no line `core K` says whose calls these are, and the sheet has {cores} cores; --core K says it too"),
             )),
         };
