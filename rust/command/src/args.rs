@@ -30,7 +30,7 @@ pub struct Args {
 }
 
 impl Args {
-    /// Sorts the words. Each option is given once at most; `--` ends them; `--name=value` is `--name value`.
+    /// Sorts the words. Each option is given once at most; `--` ends them; `--name=value` is `--name value`, and `-oFILE` is `-o FILE`.
     pub fn parse(
         words: impl IntoIterator<Item = OsString>,
         options: &[OptionSpec],
@@ -59,7 +59,12 @@ impl Args {
         let text = word.to_str().unwrap_or_default();
         let (name, joined) = match text.split_once('=') {
             Some((name, value)) if name.starts_with("--") => (name, Some(OsString::from(value))),
-            _ => (text, None),
+            _ => match text.split_at_checked(2) {
+                Some((name, value)) if name != "--" && !value.is_empty() => {
+                    (name, Some(OsString::from(value)))
+                }
+                _ => (text, None),
+            },
         };
         let Some(option) = options.iter().find(|option| option.name == name) else {
             return Err(unknown(word, options));
@@ -158,7 +163,7 @@ mod tests {
 
     #[test]
     fn options_and_files_stand_in_any_order() {
-        let args = parse(&["a", "--quiet", "-o", "-", "--core=3", "-", "--", "-b"]).unwrap();
+        let args = parse(&["a", "--quiet", "-o-", "--core=3", "-", "--", "-b"]).unwrap();
         assert_eq!(args.files, ["a", "-", "-b"]);
         assert!(args.has("--quiet"));
         assert_eq!(args.value("-o"), Some(OsStr::new("-")));
@@ -174,7 +179,7 @@ mod tests {
             (&["-o"], "-o wants a value"),
             (&["--quiet=1"], "--quiet takes no value"),
             (&["--quiet", "--quiet"], "--quiet is given twice"),
-            (&["-o=x"], "there is no option `-o=x`"),
+            (&["-x=x"], "there is no option `-x=x`"),
         ] {
             let text = parse(words).unwrap_err().text;
             assert!(text.contains(part), "{words:?}: {text}");

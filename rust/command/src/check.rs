@@ -14,7 +14,8 @@ use std::ffi::{OsStr, OsString};
 
 use crate::args::{flag, valued, Args, OptionSpec};
 use crate::failure::{Failure, Outcome};
-use crate::files::Out;
+use crate::out::Out;
+use crate::wording::quoted;
 
 use answers::Style;
 use progress::Progress;
@@ -33,7 +34,15 @@ pub fn check(args: &Args, out: &mut Out) -> Outcome {
     let walked = walk::walk(paths, ending, &mut progress);
     let mut report = Report::new(style, out, progress, walked.files.len() as u64);
     workers::check(&walked.files, style, |answers| report.add(&answers));
-    Ok(report.end(walked.folder || paths.len() > 1))
+    let status = report.end(walked.folder || paths.len() > 1);
+    match (walked.files.is_empty(), ending.is_empty()) {
+        (false, _) => Ok(status),
+        (true, true) => Err(Failure::new("there is no file to check")),
+        (true, false) => Err(Failure::new(format!(
+            "there is no file to check whose name ends with {}",
+            quoted(&ending.to_string_lossy())
+        ))),
+    }
 }
 
 fn paths(args: &Args) -> Result<&[OsString], Failure> {

@@ -9,11 +9,13 @@ use std::ffi::OsStr;
 
 use crate::args::{flag, valued, Args, OptionSpec};
 use crate::failure::{Failure, Outcome};
-use crate::files::{read_whole, replace, shown, Out};
+use crate::files::{read_whole, shown};
 use crate::judge;
 use crate::list::FRONT;
 use crate::log::reader::{is_log, Calls, LONGEST};
 use crate::log::{Log, Origin, FIRST_LINE};
+use crate::out::Out;
+use crate::replace::replace;
 use crate::run;
 use crate::run::make::{self, Made};
 
@@ -26,6 +28,9 @@ pub const OPTIONS: &[OptionSpec] = &[
 /// Ticks of a core that a picture has at most.
 const MOST_TICKS: usize = 20_000;
 
+/// Calls of a core that a picture has at most, ticks included: more than twice as many as a run of so many ticks makes.
+const MOST_CALLS: usize = 100_000;
+
 /// Columns of letters where nothing says how many there are.
 const COLUMNS: usize = 100;
 
@@ -34,11 +39,17 @@ pub fn draw(args: &Args, out: &mut Out) -> Outcome {
     if width.is_some() && !args.has("--text") {
         return Err(Failure::new("--width goes with --text"));
     }
+    make::keeps_inputs(args)?;
     let made = made(args)?;
-    if made.logs.iter().any(|log| log.ticks() > MOST_TICKS) {
-        return Err(Failure::new(format!(
-            "a picture has at most {MOST_TICKS} ticks for each core: this run is longer"
-        )));
+    for (most, what, count) in [
+        (MOST_TICKS, "ticks", Log::ticks as fn(&Log) -> usize),
+        (MOST_CALLS, "calls", |log| log.entries.len()),
+    ] {
+        if made.logs.iter().any(|log| count(log) > most) {
+            return Err(Failure::new(format!(
+                "a picture has at most {most} {what} for each core: this run is longer"
+            )));
+        }
     }
     let picture = match args.has("--text") {
         true => text::text(
@@ -62,7 +73,7 @@ pub fn draw(args: &Args, out: &mut Out) -> Outcome {
 /// The runs: of a job list, of a sheet, or those of a log.
 fn made(args: &Args) -> Result<Made, Failure> {
     let path = args.one_file("sheet or log")?;
-    make::once_standard_input(args, path)?;
+    make::once_standard_input(args)?;
     if args.has("--bench") {
         return make::bench(args, path);
     }
@@ -88,12 +99,12 @@ fn of_log(args: &Args, path: &OsStr, bytes: &[u8]) -> Result<Made, Failure> {
             return Err(Failure::new(text));
         }
     }
-    let only = args.number("--core", 0, 7)?;
+    let only = args.number("--core", 0, 255)?;
     let mut logs = Calls::parse(shown(path), bytes)?.logs()?;
     if let Some(core) = only {
         logs.retain(|log| log.origin == Origin::Core(core as u8));
         if logs.is_empty() {
-            let text = format!("--core {core}: the log {} has no such core", shown(path));
+            let text = format!("there is no core {core} in the log {}", shown(path));
             return Err(Failure::new(text));
         }
     }

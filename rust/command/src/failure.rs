@@ -1,7 +1,5 @@
 //! How the command ends.
 
-use std::fmt;
-
 /// The exit status.
 pub const WELL: u8 = 0;
 pub const REFUSED: u8 = 1;
@@ -29,12 +27,6 @@ impl Failure {
             status: REFUSED,
             text: text.into(),
         }
-    }
-}
-
-impl fmt::Display for Failure {
-    fn fmt(&self, f: &mut fmt::Formatter<'_>) -> fmt::Result {
-        f.write_str(&self.text)
     }
 }
 

@@ -80,7 +80,6 @@ pub struct Task {
     pub core: Option<u8>,
     pub period: u16,
     pub budget: u16,
-    pub spare: u8,
     pub factor: u32,
 }
 
@@ -91,8 +90,6 @@ pub struct Core {
     pub pivot: u16,
     /// The task count, of version 2 alone.
     pub count: Option<u8>,
-    /// Two bytes in version 1, one in version 2.
-    pub spare: u16,
     pub divisor: u32,
 }
 
@@ -230,7 +227,6 @@ impl<'a> Fields<'a> {
             core,
             period: self.two(at)?,
             budget: self.two(at + 2)?,
-            spare: self.byte(at + 5)?,
             factor: self.four(at + 6)?,
         })
     }
@@ -249,15 +245,11 @@ impl<'a> Fields<'a> {
 
     pub fn core(&self, number: u8) -> Option<Core> {
         let at = self.layout.core_offset(number);
-        let (count, spare) = match self.layout.grouped {
-            false => (None, self.two(at + 2)?),
-            true => (Some(self.byte(at + 2)?), self.byte(at + 3)?.into()),
-        };
+        let count = self.byte(at + 2)?;
         (number < self.layout.cores).then_some(Core {
             number,
             pivot: self.two(at)?,
-            count,
-            spare,
+            count: self.layout.grouped.then_some(count),
             divisor: self.four(at + 4)?,
         })
     }

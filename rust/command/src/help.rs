@@ -9,9 +9,9 @@ usage: homvaits COMMAND [OPTIONS] FILE..
   list SHEET      prints the listing of a sheet
   explain SHEET   says why a sheet is refused, and shows every field of it
   plan JOBS       plans a job list, and says which core runs each job
-  margins JOBS    tells how many ticks each job of a list has to spare on one core
+  margins JOBS    tells what each job of a list has to spare on one core
   move SHEET      writes a sheet in the other version, 1 or 2
-  run SHEET       runs the cores of a sheet, and prints the log and how the jobs got on
+  run SHEET       runs the cores of a sheet, and tells how the jobs got on
   draw SHEET|LOG  draws a run
 
 `homvaits COMMAND --help` tells more of each. FILE may be -, which is standard
@@ -39,7 +39,8 @@ summary follows where there was a folder or more than one file.
   --json         the answers as one JSON document, a line for each file
   --ending TEXT  of the files in folders only those whose names end so
 
-Status 1 if a sheet is refused, 2 if a path could not be read.
+Status 1 if a sheet is refused, 2 if a path could not be read or there is no
+file at all.
 ";
 
 pub const LIST: &str = "\
@@ -112,8 +113,9 @@ usage: homvaits run SHEET [OPTIONS]
 
 Runs the cores of a sheet, prints the log of each, and then a table: for each
 task how many jobs it had, how many of them were late, after how many ticks the
-latest of them ended, within how many the sheet promises it, and what is left
-between the two. Every log goes through the on-time rule.
+latest of them ended, within how many the sheet promises it, and the margin
+between the two, of this run (`homvaits margins` tells what a list promises).
+Every log goes through the on-time rule.
 
   --core K       runs core K alone
   --ticks N      so many ticks, 1 to 100000; if left out twice the longest
@@ -153,6 +155,6 @@ the run, with the options of `homvaits run`, or draws a log as it stands.
   --width N   columns that the letters may take, 40 to 1000; if left out what
               the variable COLUMNS says, or 100
 
-A picture has at most 20000 ticks for each core.
+A picture has at most 20000 ticks and 100000 calls for each core.
 Status as for run.
 ";

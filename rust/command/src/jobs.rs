@@ -6,8 +6,8 @@ use homvaits::{Job, Place, Refusal, Word};
 
 use crate::args::decimal;
 use crate::failure::Failure;
-use crate::files::{read_whole, shown};
-use crate::wording::quoted;
+use crate::files::{read_whole, shown, without_byte_order_mark};
+use crate::wording::{prints, quoted};
 
 /// Bytes that a job list has at most.
 const LONGEST: usize = 1 << 20;
@@ -37,7 +37,13 @@ pub struct JobList {
 impl JobList {
     pub fn read(path: &OsStr) -> Result<JobList, Failure> {
         let bytes = read_whole(path, LONGEST)?;
+        let bytes = without_byte_order_mark(&bytes);
         let file = shown(path);
+        if bytes.starts_with(b"TSH") {
+            return Err(Failure::refused(format!(
+                "{file}: it begins as a sheet, and a job list is wanted"
+            )));
+        }
         let mut listed = Vec::new();
         for (at, line) in bytes.split(|&byte| byte == b'\n').enumerate() {
             let line_number = at + 1;
@@ -165,8 +171,11 @@ pub fn checked_name(name: &str) -> Result<String, String> {
             "{name} is no name, which begins with a letter: {FORM}"
         ));
     }
-    if name.chars().any(char::is_control) {
-        return Err("the name has a control character".to_owned());
+    if !prints(name) {
+        return Err(format!(
+            "the name {} has a character that does not print",
+            quoted(name)
+        ));
     }
     if name.chars().count() > LONGEST_NAME {
         return Err(format!("the name is longer than {LONGEST_NAME} characters"));
@@ -205,7 +214,8 @@ mod tests {
             ("65536 1", "the period `65536` is above 65535"),
             ("5 99999999999999999999999", "is above 65535"),
             ("5 1 1", "`1` is no name"),
-            ("5 1 a\u{7}", "control character"),
+            ("5 1 a\u{7}", "does not print"),
+            ("5 1 a\u{202e}b", "does not print"),
         ] {
             let told = line(text).unwrap_err();
             assert!(told.contains(part), "{text}: {told}");

@@ -1,5 +1,7 @@
 //! The jobs of a log, and the on-time rule (docs/SHEET.md, section 7), by calls and answers alone.
 
+use std::collections::VecDeque;
+
 use crate::log::{Answer, Call, Entry, Log, Task};
 
 /// A job: an accepted release of a task, and what came of it.
@@ -17,8 +19,6 @@ pub struct Job {
     pub finished: bool,
     /// Whether w ticks came after its release and it had not ended by the last of them.
     pub late: bool,
-    /// How many ticks it had.
-    served: u16,
 }
 
 /// How the jobs of a task got on.
@@ -57,21 +57,31 @@ pub fn tallies(log: &Log, jobs: &[Job]) -> Vec<Tally> {
     tallies
 }
 
+/// What is going on at a task. Its jobs come to their ends and to their due moments in the order of their releases.
+#[derive(Clone, Default)]
+struct Row {
+    /// How many ticks it had.
+    served: usize,
+    /// The jobs that have not ended, by their places among the jobs, each with the ticks that the task had at its release.
+    pending: VecDeque<(usize, usize)>,
+    /// The jobs whose due moments are to come.
+    owed: VecDeque<usize>,
+}
+
 struct Judge<'a> {
     tasks: &'a [Task],
+    rows: Vec<Row>,
     ticks: usize,
     jobs: Vec<Job>,
-    /// The jobs that have not ended, by their places among the jobs.
-    open: Vec<usize>,
 }
 
 impl<'a> Judge<'a> {
     fn new(tasks: &'a [Task]) -> Judge<'a> {
         Judge {
             tasks,
+            rows: vec![Row::default(); tasks.len()],
             ticks: 0,
             jobs: Vec::new(),
-            open: Vec::new(),
         }
     }
 
@@ -89,53 +99,62 @@ impl<'a> Judge<'a> {
     }
 
     fn release(&mut self, number: u8) {
-        let Some(row) = self.row(number) else {
+        let Some(place) = self.row(number) else {
             return;
         };
-        self.open.push(self.jobs.len());
+        let (row, job) = (&mut self.rows[place], self.jobs.len());
+        row.pending.push_back((job, row.served));
+        row.owed.push_back(job);
         self.jobs.push(Job {
-            row,
+            row: place,
             released: self.ticks,
-            due: self.ticks + usize::from(self.tasks[row].within),
+            due: self.ticks + usize::from(self.tasks[place].within),
             ended: None,
             finished: false,
             late: false,
-            served: 0,
         });
     }
 
     fn finish(&mut self, number: u8) {
-        let row = self.row(number);
-        for &open in &self.open {
-            let job = &mut self.jobs[open];
-            if Some(job.row) == row {
-                job.ended = Some(self.ticks);
-                job.finished = true;
-            }
+        let Some(place) = self.row(number) else {
+            return;
+        };
+        for (job, _) in self.rows[place].pending.drain(..) {
+            self.jobs[job].ended = Some(self.ticks);
+            self.jobs[job].finished = true;
         }
-        self.forget_ended();
     }
 
-    /// Every job that is open has this tick behind its release.
     fn tick(&mut self, served: Option<u8>) {
         self.ticks += 1;
-        let row = served.and_then(|number| self.row(number));
-        for &open in &self.open {
-            let job = &mut self.jobs[open];
-            if Some(job.row) == row {
-                job.served += 1;
-                if job.served >= self.tasks[job.row].budget {
-                    job.ended = Some(self.ticks);
-                }
-            }
-            job.late |= job.ended.is_none() && self.ticks >= job.due;
+        if let Some(place) = served.and_then(|number| self.row(number)) {
+            self.serve(place);
         }
-        self.forget_ended();
+        for row in &mut self.rows {
+            // a job that is due now and has not ended is late
+            while let Some(&job) = row.owed.front() {
+                let job = &mut self.jobs[job];
+                if job.due > self.ticks {
+                    break;
+                }
+                job.late = job.ended.is_none();
+                row.owed.pop_front();
+            }
+        }
     }
 
-    fn forget_ended(&mut self) {
-        let jobs = &self.jobs;
-        self.open.retain(|&open| jobs[open].ended.is_none());
+    /// A task has a tick: each of its pending jobs has one more, and ends with as many as the budget.
+    fn serve(&mut self, place: usize) {
+        let row = &mut self.rows[place];
+        row.served += 1;
+        let budget = usize::from(self.tasks[place].budget);
+        while let Some(&(job, before)) = row.pending.front() {
+            if row.served - before < budget {
+                break;
+            }
+            self.jobs[job].ended = Some(self.ticks);
+            row.pending.pop_front();
+        }
     }
 }
 

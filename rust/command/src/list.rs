@@ -4,7 +4,8 @@ use homvaits::LISTING_MAX;
 
 use crate::args::Args;
 use crate::failure::{Outcome, REFUSED, WELL};
-use crate::files::{read_front, Out};
+use crate::files::read_front;
+use crate::out::Out;
 
 /// One more than the longest sheet: a longer file has the verdict, the listing and the moved sheet of its first so many bytes.
 pub const FRONT: usize = homvaits::SHEET_MAX + 1;

@@ -16,7 +16,9 @@ mod loads;
 mod log;
 mod margins;
 mod move_sheet;
+mod out;
 mod plan;
+mod replace;
 mod rng;
 mod run;
 mod table;
@@ -28,7 +30,7 @@ use std::process::ExitCode;
 
 use args::{Args, OptionSpec};
 use failure::{Failure, Outcome, FAILED, WELL};
-use files::Out;
+use out::Out;
 
 /// A command: its name, its help, its options, and what it does.
 struct Command {
@@ -140,6 +142,7 @@ fn dispatch(words: Vec<OsString>, out: &mut Out) -> Outcome {
 fn help(of: &[OsString], out: &mut Out) -> Outcome {
     let text = match of {
         [] => help::GENERAL,
+        [name] if name == "help" => help::GENERAL,
         [name] => command(&name.to_string_lossy())?.help,
         [_, next, ..] => {
             let next = wording::quoted(&next.to_string_lossy());

@@ -4,8 +4,8 @@ use homvaits::{margin, Core, Refusal};
 
 use crate::args::Args;
 use crate::failure::{Outcome, REFUSED, WELL};
-use crate::files::Out;
 use crate::jobs::JobList;
+use crate::out::Out;
 use crate::table::{Side, Table};
 use crate::wording::counted;
 

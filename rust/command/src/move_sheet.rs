@@ -4,8 +4,10 @@ use std::ffi::OsStr;
 
 use crate::args::{valued, Args, OptionSpec};
 use crate::failure::{Failure, Outcome, WELL};
-use crate::files::{not_to_terminal, read_front, replace, shown, Out};
+use crate::files::{read_front, shown};
 use crate::list::FRONT;
+use crate::out::Out;
+use crate::replace::{not_to_terminal, replace};
 use crate::wording;
 
 pub const OPTIONS: &[OptionSpec] = &[valued("-o", "MOVED")];

@@ -9,8 +9,10 @@ use homvaits::{Refusal, Sheet, Word};
 
 use crate::args::{flag, valued, Args, OptionSpec};
 use crate::failure::{Failure, Outcome, WELL};
-use crate::files::{not_to_terminal, replace, shown, Out};
+use crate::files::shown;
 use crate::jobs::JobList;
+use crate::out::Out;
+use crate::replace::{not_an_input, not_to_terminal, replace};
 use crate::table::{Side, Table};
 use crate::wording::{counted, joined};
 
@@ -24,10 +26,12 @@ pub const OPTIONS: &[OptionSpec] = &[
 pub fn plan(args: &Args, out: &mut Out) -> Outcome {
     args.at_most_one(&["--start", "--all-starts"])?;
     let limit = args.number("--cores", 0, 8)?.unwrap_or(8) as u8;
-    let start = args.number("--start", 0, 63)?.unwrap_or(0) as usize;
-    let list = JobList::read(args.one_file("job list")?)?;
+    let start = args.number("--start", 0, u32::MAX.into())?.unwrap_or(0) as usize;
+    let path = args.one_file("job list")?;
     let to = args.value("-o");
     not_to_terminal(to.unwrap_or_default())?;
+    not_an_input(to.unwrap_or_default(), &[Some(path)])?;
+    let list = JobList::read(path)?;
     let mut words = Vec::new();
     let planned = match args.has("--all-starts") {
         true => starts::best(&list, limit, &mut words),
@@ -43,8 +47,8 @@ pub fn plan(args: &Args, out: &mut Out) -> Outcome {
             told(&list, &sheet, start, out);
             if let Some(to) = to {
                 replace(to, sheet.as_bytes())?;
-                let bytes = sheet.as_bytes().len();
-                out.line(&format!("{}: version 1, {bytes} bytes", shown(to)));
+                let (version, bytes) = (sheet.version(), sheet.as_bytes().len());
+                out.line(&format!("{}: version {version}, {bytes} bytes", shown(to)));
             }
         }
     }
@@ -67,7 +71,7 @@ fn refused(list: &JobList, limit: u8, start: usize, refusal: Refusal) -> Failure
                 1 => "the list has 1 job, so a start is 0".to_owned(),
                 _ => format!("the list has {jobs} jobs, so a start is 0 to {}", jobs - 1),
             };
-            Failure::new(format!("--start {start}: refused 22 (Start): {right}"))
+            Failure::new(format!("there is no start {start}: {right}"))
         }
         Word::NoFit => no_fit::told(list, limit, start, refusal),
         _ => list.refused(refusal),
@@ -121,15 +125,19 @@ fn cores(sheet: &Sheet) -> Table {
         ("tasks", Side::Left),
     ]);
     for core in sheet.cores() {
-        let own = sheet.tasks().filter(|task| task.core == core.number);
-        let tasks: Vec<u8> = own.map(|task| task.number).collect();
         table.row(vec![
             core.number.to_string(),
             core.pivot.to_string(),
             core.divisor.to_string(),
             core.load.to_string(),
-            joined(&tasks),
+            joined(&tasks_on(sheet, core.number)),
         ]);
     }
     table
+}
+
+/// The numbers of the tasks on a core.
+fn tasks_on(sheet: &Sheet, core: u8) -> Vec<u8> {
+    let own = sheet.tasks().filter(|task| task.core == core);
+    own.map(|task| task.number).collect()
 }

@@ -9,13 +9,16 @@ use std::ffi::OsStr;
 
 use crate::args::{valued, Args, OptionSpec};
 use crate::failure::{Outcome, REFUSED, WELL};
-use crate::files::{replace, shown, tell, Out};
+use crate::files::{shown, tell};
 use crate::log::{Log, FIRST_LINE};
+use crate::out::Out;
+use crate::replace::replace;
 use make::Made;
 
 pub const OPTIONS: &[OptionSpec] = &[valued("-o", "LOG")];
 
 pub fn run(args: &Args, out: &mut Out) -> Outcome {
+    make::keeps_inputs(args)?;
     let made = make::runs(args)?;
     let told = tally::told(&made.logs);
     let to = args.value("-o").filter(|&to| to != OsStr::new("-"));

@@ -38,7 +38,8 @@ pub fn refused(refusal: Refusal, bytes: &[u8]) -> String {
 
 /// An accepted sheet: `accepted: version 1, 10 tasks on 2 cores, loads 953 and 720`, the loads in thousandths.
 pub fn accepted(bytes: &[u8], loads: &[u16]) -> String {
-    let layout = Fields::new(bytes).layout;
+    let fields = Fields::new(bytes);
+    let layout = fields.layout;
     let loads = match loads {
         [] => String::new(),
         [load] => format!(", load {load}"),
@@ -46,7 +47,7 @@ pub fn accepted(bytes: &[u8], loads: &[u16]) -> String {
     };
     format!(
         "accepted: version {}, {} on {}{loads}",
-        layout.version(),
+        fields.version().unwrap_or(0),
         counted(layout.tasks.into(), "task"),
         counted(layout.cores.into(), "core")
     )
@@ -67,6 +68,13 @@ pub fn joined<T: ToString>(things: &[T]) -> String {
         Some((last, front)) if !front.is_empty() => format!("{} and {last}", front.join(", ")),
         _ => words.concat(),
     }
+}
+
+/// Whether every character of a text prints, so that it can be shown as it is.
+pub fn prints(text: &str) -> bool {
+    let plain = |letter: char| matches!(letter, '\\' | '\'' | '"');
+    let escaped = text.escape_debug().count();
+    escaped == text.chars().count() + text.chars().filter(|&letter| plain(letter)).count()
 }
 
 /// Characters of a wrong word that are shown.

@@ -18,12 +18,19 @@ pub fn add_sheet(text: &mut String, path: &Path, verdict: &Verdict) {
     text.push_str(BETWEEN);
     text.push_str("\n{\"path\":");
     add_string(text, &path.to_string_lossy());
+    if path.to_str().is_none() {
+        text.push_str(",\"path_hex\":\"");
+        let bytes = path.as_os_str().as_encoded_bytes().iter();
+        bytes.for_each(|byte| text.push_str(&format!("{byte:02x}")));
+        text.push('"');
+    }
     match verdict {
         Verdict::Accepted(bytes) => {
-            let layout = Fields::new(bytes).layout;
+            let fields = Fields::new(bytes);
+            let layout = fields.layout;
             text.push_str(&format!(
                 ",\"accepted\":true,\"version\":{},\"tasks\":{},\"cores\":{},\"loads\":[{}]}}",
-                layout.version(),
+                fields.version().unwrap_or(0),
                 layout.tasks,
                 layout.cores,
                 commas(&loads(bytes))
@@ -103,7 +110,7 @@ mod tests {
         let path = b"a\"b\\c\n\x1b\x7f\xff\xc3\xbc/\xc2\x85";
         let text = sheet(path, b"");
         assert!(text.starts_with(
-            ",\n{\"path\":\"a\\\"b\\\\c\\u000a\\u001b\\u007f\u{fffd}\u{fc}/\\u0085\",\"accepted\":false,"
+            ",\n{\"path\":\"a\\\"b\\\\c\\u000a\\u001b\\u007f\u{fffd}\u{fc}/\\u0085\",\"path_hex\":\"6122625c630a1b7fffc3bc2fc285\",\"accepted\":false,"
         ));
         assert_eq!(text.lines().count(), 2);
     }

@@ -6,7 +6,8 @@ use super::answers::{Answers, Style};
 use super::json;
 use super::progress::Progress;
 use super::tally::Tally;
-use crate::files::{tell, Out};
+use crate::files::tell;
+use crate::out::Out;
 
 pub struct Report<'a> {
     style: Style,

@@ -84,7 +84,9 @@ impl<'a> Chart<'a> {
         for entry in &log.entries {
             moment = chart.take(entry, moment);
         }
-        judge::jobs(log).iter().for_each(|job| chart.job(job));
+        let jobs = judge::jobs(log);
+        jobs.iter().for_each(|job| chart.job(job));
+        (0..log.tasks.len()).for_each(|row| chart.bars(row, &jobs));
         chart.rows.retain(|row| row.task.is_some() || row.is_used());
         chart
     }
@@ -143,13 +145,11 @@ impl<'a> Chart<'a> {
         &mut self.rows[row.unwrap_or(last)]
     }
 
+    /// The marks of a job. Its ticks are left to `bars`.
     fn job(&mut self, job: &Job) {
         let end = job.ended.unwrap_or(self.ticks);
         let row = &mut self.rows[job.row];
         let number = row.task.map(|task| task.number);
-        for cell in row.cells.get_mut(job.released..end).unwrap_or_default() {
-            cell.pending = true;
-        }
         let mut mark = |what| {
             row.marks.push(Mark {
                 moment: job.due,
@@ -160,14 +160,43 @@ impl<'a> Chart<'a> {
         if job.due <= self.ticks {
             mark(What::Due { missed: job.late });
         }
-        if job.late {
-            self.late += 1;
-            if job.due >= end {
-                mark(What::LateHere);
-            }
-            row.late(job.due..end);
+        if job.late && job.due >= end {
+            mark(What::LateHere);
+        }
+        self.late += usize::from(job.late);
+    }
+
+    /// The ticks in which the jobs of a row were pending and late.
+    fn bars(&mut self, place: usize, jobs: &[Job]) {
+        let own = jobs.iter().filter(|job| job.row == place);
+        let spans = own.map(|job| (job, job.ended.unwrap_or(self.ticks)));
+        let pending = covered(
+            self.ticks,
+            spans.clone().map(|(job, end)| (job.released, end)),
+        );
+        let late = spans.filter(|(job, _)| job.late);
+        let late = covered(self.ticks, late.map(|(job, end)| (job.due, end)));
+        let marks = pending.into_iter().zip(late);
+        for (cell, (pending, late)) in self.rows[place].cells.iter_mut().zip(marks) {
+            (cell.pending, cell.late) = (pending, late);
         }
     }
+}
+
+/// Of each tick whether one of the spans between two moments has it.
+fn covered(ticks: usize, spans: impl Iterator<Item = (usize, usize)>) -> Vec<bool> {
+    // how many spans begin at each moment, less those that end
+    let mut changes = vec![0_isize; ticks + 1];
+    for (from, to) in spans.filter(|(from, to)| from < to) {
+        changes[from] += 1;
+        changes[to] -= 1;
+    }
+    let mut open = 0;
+    let has = |change: isize| {
+        open += change;
+        open > 0
+    };
+    changes.into_iter().take(ticks).map(has).collect()
 }
 
 impl<'a> Row<'a> {
@@ -176,12 +205,6 @@ impl<'a> Row<'a> {
             task,
             cells: vec![Cell::default(); ticks],
             marks: Vec::new(),
-        }
-    }
-
-    fn late(&mut self, ticks: std::ops::Range<usize>) {
-        for cell in self.cells.get_mut(ticks).unwrap_or_default() {
-            cell.late = true;
         }
     }
 

@@ -25,10 +25,13 @@ pub fn svg(logs: &[Log]) -> String {
     let layout = Layout::of(logs);
     let mut body = String::new();
     let mut y = legend::draw(&mut body, MARGIN);
+    let mut headings = Vec::new();
     for log in logs {
-        y = chart(&mut body, &layout, &Chart::of(log), y + CORE_GAP);
+        let core = Chart::of(log);
+        headings.push(core.heading());
+        y = chart(&mut body, &layout, &core, y + CORE_GAP);
     }
-    document(&body, layout.width, y + MARGIN)
+    document(&headings.join("; "), &body, layout.width, y + MARGIN)
 }
 
 /// Draws the run of a core below this height, and answers how far down it goes.
@@ -53,9 +56,10 @@ fn chart(out: &mut String, layout: &Layout, chart: &Chart, top: usize) -> usize 
     y - BAND_GAP
 }
 
-fn document(body: &str, width: usize, height: usize) -> String {
+fn document(title: &str, body: &str, width: usize, height: usize) -> String {
     format!(
         "<svg xmlns=\"http://www.w3.org/2000/svg\" width=\"{width}\" height=\"{height}\" viewBox=\"0 0 {width} {height}\">\n\
+         <title>{title}</title>\n\
          <style>\n{}</style>\n\
          <rect class=\"page\" width=\"{width}\" height=\"{height}\"/>\n\
          {body}</svg>\n",

@@ -80,11 +80,7 @@ pub fn guess(fields: &Fields, guess: &Guess) -> Option<String> {
 
 fn other_header(fields: &Fields, layout: Layout) -> String {
     let differences = joined(&differences(fields, layout));
-    let likely = match is_known(fields) {
-        true => ": it is likely that nothing else is damaged",
-        false => "", // a newer version may be right as it stands
-    };
-    format!("With {differences} in its header the sheet would be accepted{likely}.")
+    format!("With {differences} in its header the sheet would be accepted: it is likely that nothing else is damaged.")
 }
 
 /// Whether the version is 1 or 2.

@@ -65,7 +65,6 @@ mod tests {
             core: Some(0),
             period,
             budget,
-            spare: 0,
             factor: 1,
         };
         thousandths(&jobs.iter().map(task).collect::<Vec<_>>())

@@ -5,7 +5,7 @@ use std::ffi::OsStr;
 use super::{Answer, Call, Entry, Log, Origin, Task};
 use crate::args::decimal;
 use crate::failure::Failure;
-use crate::files::{read_whole, shown};
+use crate::files::{read_whole, shown, without_byte_order_mark};
 use crate::jobs::checked_name;
 use crate::wording;
 
@@ -44,7 +44,7 @@ pub struct Calls {
 
 /// Whether bytes begin as a log of some version.
 pub fn is_log(bytes: &[u8]) -> bool {
-    bytes.starts_with(b"homvaits log")
+    without_byte_order_mark(bytes).starts_with(b"homvaits log")
 }
 
 impl Calls {
@@ -58,6 +58,7 @@ impl Calls {
             parts: vec![Part::default()],
         };
         let mut count = 0;
+        let bytes = without_byte_order_mark(bytes);
         for (line, number) in bytes.split(|&byte| byte == b'\n').zip(1..) {
             let step = read_line(line).and_then(|line| calls.take(line, number, &mut count));
             step.map_err(|text| calls.wrong(number, &text))?;

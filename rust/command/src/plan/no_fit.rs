@@ -2,6 +2,7 @@
 
 use homvaits::{Job, Place, Refusal, Sheet};
 
+use super::tasks_on;
 use crate::failure::Failure;
 use crate::jobs::JobList;
 use crate::table::{Side, Table};
@@ -26,7 +27,8 @@ pub fn told(list: &JobList, limit: u8, start: usize, refusal: Refusal) -> Failur
         list.task(task)
     )];
     if let Some((numbers, sheet)) = before(&jobs, limit, start, task) {
-        lines.extend(loads(&numbers, &sheet));
+        lines.push("the cores when its turn came (load in thousandths):".to_owned());
+        lines.extend(cores(&numbers, &sheet).lines());
     }
     let hint = match limit {
         0 => "the core limit is 0: allow a core (--cores)",
@@ -49,7 +51,7 @@ fn ring(jobs: &[Job]) -> Vec<usize> {
 
 /// The library's plan of the jobs whose turn came before that of `task`, and their numbers. Among themselves they have the order and
 /// the ties that they have in the whole list, so each goes to the core that it went to there. None where they have no plan or no core.
-fn before(jobs: &[Job], limit: u8, start: usize, task: usize) -> Option<(Vec<usize>, Sheet)> {
+pub fn before(jobs: &[Job], limit: u8, start: usize, task: usize) -> Option<(Vec<usize>, Sheet)> {
     let ring = ring(jobs);
     let (front, back) = ring.split_at_checked(start)?;
     let walked = back.iter().chain(front).take_while(|&&next| next != task);
@@ -63,16 +65,16 @@ fn before(jobs: &[Job], limit: u8, start: usize, task: usize) -> Option<(Vec<usi
 }
 
 /// The load of each core, and its tasks by their numbers in the whole list.
-fn loads(numbers: &[usize], sheet: &Sheet) -> Vec<String> {
+fn cores(numbers: &[usize], sheet: &Sheet) -> Table {
     let mut table = Table::new(&[
         ("core", Side::Right),
         ("load", Side::Right),
         ("tasks", Side::Left),
     ]);
     for core in sheet.cores() {
-        let own = sheet.tasks().filter(|task| task.core == core.number);
+        let own = tasks_on(sheet, core.number).into_iter();
         let tasks: Vec<usize> = own
-            .filter_map(|task| numbers.get(usize::from(task.number)).copied())
+            .filter_map(|task| numbers.get(usize::from(task)).copied())
             .collect();
         table.row(vec![
             core.number.to_string(),
@@ -80,9 +82,7 @@ fn loads(numbers: &[usize], sheet: &Sheet) -> Vec<String> {
             joined(&tasks),
         ]);
     }
-    let mut lines = vec!["the cores when its turn came (load in thousandths):".to_owned()];
-    lines.extend(table.lines());
-    lines
+    table
 }
 
 #[cfg(test)]

@@ -2,6 +2,7 @@
 
 use homvaits::{Refusal, Sheet, Word};
 
+use super::no_fit::before;
 use crate::failure::Failure;
 use crate::jobs::JobList;
 use crate::table::{Side, Table};
@@ -21,7 +22,7 @@ pub fn best(list: &JobList, limit: u8, lines: &mut Vec<String>) -> Result<(Sheet
     if let Some(refusal) = wrong {
         return Err(list.refused(refusal));
     }
-    lines.extend(table(list, &plans).lines());
+    lines.extend(table(list, limit, &plans).lines());
     let planned = plans.iter().enumerate();
     let planned = planned.filter_map(|(start, plan)| Some((start, plan.as_ref().ok()?)));
     // of several the first
@@ -54,28 +55,42 @@ fn at_most(limit: u8) -> String {
     }
 }
 
-fn table(list: &JobList, plans: &[Result<Sheet, Refusal>]) -> Table {
+/// What each start gives: the loads of its cores, or of those that were there when a job found none.
+fn table(list: &JobList, limit: u8, plans: &[Result<Sheet, Refusal>]) -> Table {
     let mut table = Table::new(&[
         ("start", Side::Right),
         ("cores", Side::Right),
         ("loads", Side::Left),
+        ("no core takes", Side::Left),
     ]);
+    let jobs = list.jobs();
     for (start, plan) in plans.iter().enumerate() {
-        let (cores, loads) = match plan {
+        let start_words = start.to_string();
+        table.row(match plan {
             Ok(sheet) => {
-                let loads: Vec<u16> = sheet.cores().map(|core| core.load).collect();
-                (loads.len().to_string(), joined(&loads))
+                let cores = sheet.cores().len().to_string();
+                vec![start_words, cores, loads(sheet), String::new()]
             }
             Err(refusal) => {
                 let task = usize::from(refusal.place.number());
-                let place = match list.listed.get(task) {
-                    Some(listed) => format!("line {}, {}", listed.line, list.task(task)),
-                    None => list.task(task),
-                };
-                ("none".to_owned(), format!("no core takes {place}"))
+                let cores = before(&jobs, limit, start, task);
+                let loads = cores.map_or_else(String::new, |(_, sheet)| loads(&sheet));
+                vec![start_words, "-".to_owned(), loads, named(list, task)]
             }
-        };
-        table.row(vec![start.to_string(), cores, loads]);
+        });
     }
     table
+}
+
+fn loads(sheet: &Sheet) -> String {
+    let loads: Vec<u16> = sheet.cores().map(|core| core.load).collect();
+    joined(&loads)
+}
+
+/// A task by its line, number and name.
+fn named(list: &JobList, task: usize) -> String {
+    match list.listed.get(task) {
+        Some(listed) => format!("line {}, {}", listed.line, list.task(task)),
+        None => list.task(task),
+    }
 }

@@ -2,7 +2,7 @@
 
 use std::ffi::OsStr;
 
-use homvaits::{Core, Sheet};
+use homvaits::{Core, Sheet, Word};
 
 use crate::failure::Failure;
 use crate::files::shown;
@@ -25,26 +25,27 @@ pub fn of_sheet(
 ) -> Result<(Vec<Started>, usize), Failure> {
     let sheet = Sheet::check(bytes).map_err(|refusal| {
         let why = wording::refused(refusal, bytes);
-        Failure::refused(format!(
-            "{}: {why}; `homvaits explain` tells more",
-            shown(path)
-        ))
+        let hint = match refusal.word {
+            Word::Mark => "a job list is run with --bench, and a log is given to --calls",
+            _ => "`homvaits explain` tells more",
+        };
+        Failure::refused(format!("{}: {why}; {hint}", shown(path)))
     })?;
     let cores = sheet.cores().len() as u8;
-    let numbers = match only {
-        Some(core) => core..core + 1,
-        None => 0..cores,
+    let numbers: Vec<u8> = match only {
+        Some(core) => vec![core],
+        None => (0..cores).collect(),
     };
-    let cores = numbers.map(|number| match Core::start(&sheet, number) {
-        Ok(core) => Ok(started(&sheet, number, core)),
-        Err(refusal) => Err(Failure::new(format!(
-            "--core {number}: refused {} ({}): {} has {}",
-            refusal.number(),
-            refusal.word.name(),
-            shown(path),
-            wording::counted(cores.into(), "core"),
-        ))),
-    });
+    let cores = numbers
+        .into_iter()
+        .map(|number| match Core::start(&sheet, number) {
+            Ok(core) => Ok(started(&sheet, number, core)),
+            Err(_) => Err(Failure::new(format!(
+                "there is no core {number}: {} has {}",
+                shown(path),
+                wording::counted(cores.into(), "core"),
+            ))),
+        });
     let started = cores.collect::<Result<_, _>>()?;
     let tasks = sheet.tasks().len();
     Ok((started, tasks))

@@ -78,15 +78,13 @@ impl Driver {
         }
     }
 
-    /// Makes the calls that are told. The answers that are told and are not the library's, each with what the library answers.
-    pub fn told(&mut self, calls: &[Told]) -> Vec<(Told, Answer)> {
-        let mut differences = Vec::new();
-        for &told in calls {
+    /// Makes the calls that are told, and hands on each answer of the library that is not the one that is told.
+    pub fn told(&mut self, calls: &[Told], mut differs: impl FnMut(&Told, Answer)) {
+        for told in calls {
             let answer = self.call(told.call);
             if told.answer.is_some_and(|told| told != answer) {
-                differences.push((told, answer));
+                differs(told, answer);
             }
         }
-        differences
     }
 }

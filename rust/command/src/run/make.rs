@@ -11,6 +11,7 @@ use crate::jobs::JobList;
 use crate::list::FRONT;
 use crate::log::reader::{Calls, Part, Told};
 use crate::log::{Answer, Log, Origin, Task};
+use crate::replace::not_an_input;
 use crate::wording::counted;
 
 /// What says which runs are made.
@@ -49,7 +50,7 @@ pub fn runs(args: &Args) -> Result<Made, Failure> {
         true => "job list",
         false => "sheet",
     })?;
-    once_standard_input(args, path)?;
+    once_standard_input(args)?;
     match args.has("--bench") {
         true => bench(args, path),
         false => of_bytes(args, path, &read_front(path, FRONT)?),
@@ -59,7 +60,7 @@ pub fn runs(args: &Args) -> Result<Made, Failure> {
 /// Runs the cores of a sheet that was read.
 pub fn of_bytes(args: &Args, path: &OsStr, bytes: &[u8]) -> Result<Made, Failure> {
     looked_at(args)?;
-    let only = args.number("--core", 0, 7)?.map(|core| core as u8);
+    let only = args.number("--core", 0, 255)?.map(|core| core as u8);
     let (mut started, tasks) = cores::of_sheet(path, bytes, only)?;
     let all = started.iter_mut().flat_map(|started| &mut started.tasks);
     named(args, all, Some(tasks))?;
@@ -99,10 +100,21 @@ pub fn named<'a>(
     }
 }
 
+/// The files that are read.
+fn inputs(args: &Args) -> [Option<&OsStr>; 3] {
+    let path = args.files.first().map(|path| path.as_os_str());
+    [path, args.value("--calls"), args.value("--names")]
+}
+
+/// What is written takes the place of no file that is read.
+pub fn keeps_inputs(args: &Args) -> Result<(), Failure> {
+    not_an_input(args.value("-o").unwrap_or_default(), &inputs(args))
+}
+
 /// Standard input is read once.
-pub fn once_standard_input(args: &Args, path: &OsStr) -> Result<(), Failure> {
-    let names = [Some(path), args.value("--calls"), args.value("--names")];
-    let inputs = names.iter().filter(|&&name| name == Some(OsStr::new("-")));
+pub fn once_standard_input(args: &Args) -> Result<(), Failure> {
+    let inputs = inputs(args);
+    let inputs = inputs.iter().filter(|&&name| name == Some(OsStr::new("-")));
     match inputs.count() {
         0 | 1 => Ok(()),
         _ => Err(Failure::new("standard input is named twice")),
@@ -165,15 +177,16 @@ fn free(started: Started, plan: &Plan) -> Log {
 fn told(calls: Calls, started: Vec<Started>, one_core: bool) -> Result<Made, Failure> {
     let mut started = started;
     let mut logs = Vec::new();
-    let mut differences = Vec::new();
+    let mut differences = Differences::default();
     for part in calls.parts.iter().filter(|part| !part.is_empty()) {
         let Some(mut core) = core_of(&calls, part, &mut started, one_core)? else {
             continue;
         };
         same_tasks(&calls, part, &mut core.tasks)?;
         let mut driver = Driver::new(core.core);
-        let found = driver.told(&part.calls);
-        differences.extend(found.into_iter().map(|found| difference(&calls, found)));
+        driver.told(&part.calls, |told, answer| {
+            differences.add(|| difference(&calls, told, answer));
+        });
         logs.push(Log {
             origin: core.origin,
             tasks: core.tasks,
@@ -184,11 +197,10 @@ fn told(calls: Calls, started: Vec<Started>, one_core: bool) -> Result<Made, Fai
         let (file, what) = (&calls.file, core.origin.line());
         return Err(Failure::new(format!("{file}: there is no line `{what}`")));
     }
-    let more = differences.len().saturating_sub(MOST_DIFFERENCES);
-    if more > 0 {
-        differences.truncate(MOST_DIFFERENCES);
-        differences.push(format!("and {more} more answers are not the library's"));
+    if logs.is_empty() && !started.is_empty() {
+        return Err(Failure::new(format!("{}: it has no calls", calls.file)));
     }
+    let differences = differences.sentences();
     Ok(Made { logs, differences })
 }
 
@@ -238,7 +250,32 @@ fn same_tasks(calls: &Calls, part: &Part, tasks: &mut [Task]) -> Result<(), Fail
     Ok(())
 }
 
-fn difference(calls: &Calls, (told, answer): (Told, Answer)) -> String {
+/// Answers that are told and are not the library's: the first of them in sentences, and how many there are.
+#[derive(Default)]
+struct Differences {
+    first: Vec<String>,
+    count: usize,
+}
+
+impl Differences {
+    fn add(&mut self, sentence: impl FnOnce() -> String) {
+        self.count += 1;
+        if self.first.len() < MOST_DIFFERENCES {
+            self.first.push(sentence());
+        }
+    }
+
+    fn sentences(mut self) -> Vec<String> {
+        let more = self.count - self.first.len();
+        if more > 0 {
+            let more = format!("and {more} more answers are not the library's");
+            self.first.push(more);
+        }
+        self.first
+    }
+}
+
+fn difference(calls: &Calls, told: &Told, answer: Answer) -> String {
     let said = told.answer.map_or_else(String::new, Answer::text);
     let answer = answer.text();
     let (file, line) = (&calls.file, told.line);
