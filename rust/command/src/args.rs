@@ -30,7 +30,7 @@ pub struct Args {
 }
 
 impl Args {
-    /// Sorts the words. Each option is given once at most; `--` ends them; `--name=value` is `--name value`, and `-oFILE` is `-o FILE`.
+    /// Sorts the words. Each option is given once at most; `--` ends them; `--name=value` is `--name value`, and `-oFILE` and `-o=FILE` are `-o FILE`.
     pub fn parse(
         words: impl IntoIterator<Item = OsString>,
         options: &[OptionSpec],
@@ -61,6 +61,7 @@ impl Args {
             Some((name, value)) if name.starts_with("--") => (name, Some(OsString::from(value))),
             _ => match text.split_at_checked(2) {
                 Some((name, value)) if name != "--" && !value.is_empty() => {
+                    let value = value.strip_prefix('=').unwrap_or(value);
                     (name, Some(OsString::from(value)))
                 }
                 _ => (text, None),
