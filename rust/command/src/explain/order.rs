@@ -7,16 +7,42 @@ use crate::wording::{counted, joined};
 /// neighbours they are.
 #[derive(Clone, Debug, Default, PartialEq, Eq)]
 pub struct Disorder {
-    /// The first two tasks that have one old number.
-    pub twice: Option<(Task, Task)>,
-    /// The first task whose old number is not below the number of tasks.
-    pub beyond: Option<Task>,
+    /// The first old number, of those that there should be, that stands more than once.
+    pub repeated: Option<Stands>,
+    /// The first old number that is not below the number of tasks.
+    pub beyond: Option<Stands>,
     /// Old numbers that no task has.
     pub missing: Vec<u8>,
     /// The task counts, where they do not add up to the number of tasks.
     pub counts: Option<Vec<u8>>,
     /// The first two neighbours on a core of which the one behind has priority over the other.
     pub neighbours: Option<(Task, Task)>,
+}
+
+/// Where an old number stands.
+#[derive(Clone, Debug, PartialEq, Eq)]
+pub struct Stands {
+    pub number: u8,
+    pub positions: Vec<u8>,
+}
+
+impl Stands {
+    fn of(tasks: &[Task], number: u8) -> Stands {
+        let own = tasks.iter().filter(|task| task.number == number);
+        let positions = own.map(|task| task.position).collect();
+        Stands { number, positions }
+    }
+
+    /// `2 stands twice, at positions 3 and 4`.
+    fn words(&self) -> String {
+        let Stands { number, positions } = self;
+        let at = joined(positions);
+        match positions.len() {
+            0 | 1 => format!("{number} stands at position {at}"),
+            2 => format!("{number} stands twice, at positions {at}"),
+            times => format!("{number} stands {times} times, at positions {at}"),
+        }
+    }
 }
 
 impl Disorder {
@@ -26,12 +52,14 @@ impl Disorder {
 
     /// The records that are not in order, by their offsets.
     pub fn named(&self, layout: Layout) -> Vec<usize> {
-        let pairs = [self.twice, self.neighbours];
-        let pairs = pairs.into_iter().flatten().flat_map(|(a, b)| [a, b]);
-        let tasks = pairs.chain(self.beyond);
+        let numbers = [&self.repeated, &self.beyond].into_iter().flatten();
+        let numbers = numbers.flat_map(|stands| stands.positions.clone());
+        let neighbours = self.neighbours.iter();
+        let neighbours = neighbours.flat_map(|(front, back)| [front.position, back.position]);
         let cores = (0..layout.cores).filter(|_| self.counts.is_some());
-        tasks
-            .map(|task| layout.task_offset(task.position))
+        numbers
+            .chain(neighbours)
+            .map(|position| layout.task_offset(position))
             .chain(cores.map(|core| layout.core_offset(core)))
             .collect()
     }
@@ -51,23 +79,15 @@ impl Disorder {
     }
 
     fn numbers(&self, layout: Layout) -> Option<String> {
-        let twice = self.twice.map(|(first, second)| {
-            format!(
-                "{} stands twice, at positions {} and {}",
-                first.number, first.position, second.position
-            )
-        });
-        let beyond = self.beyond.map(|task| {
-            let position = task.position;
-            format!("{} stands at position {position}", task.number)
-        });
+        let repeated = self.repeated.as_ref().map(Stands::words);
+        let beyond = self.beyond.as_ref().map(Stands::words);
         let missing = match self.missing.as_slice() {
             [] => None,
             [one] => Some(format!("{one} is missing")),
             few if few.len() <= 4 => Some(format!("{} are missing", joined(few))),
             [first, more @ ..] => Some(format!("{first} and {} others are missing", more.len())),
         };
-        let found: Vec<String> = [twice, beyond, missing].into_iter().flatten().collect();
+        let found: Vec<String> = [repeated, beyond, missing].into_iter().flatten().collect();
         let last = layout.tasks.saturating_sub(1);
         let all = match last {
             0 => "The old number of one task must be 0, but".to_owned(),
@@ -87,27 +107,22 @@ pub fn disorder(fields: &Fields) -> Option<Disorder> {
     let counts: Vec<u8> = fields.cores().filter_map(|core| core.count).collect();
     let sum: usize = counts.iter().copied().map(usize::from).sum();
     let add_up = sum == usize::from(count);
-    let has = |number: u8| tasks.iter().any(|task| task.number == number);
+    let stands = |number: u8| Stands::of(&tasks, number);
+    let wanted = || (0..count).map(stands);
     let found = Disorder {
-        twice: twice(&tasks),
-        beyond: tasks.iter().find(|task| task.number >= count).copied(),
-        missing: (0..count).filter(|&number| !has(number)).collect(),
+        repeated: wanted().find(|stands| stands.positions.len() > 1),
+        beyond: tasks
+            .iter()
+            .find(|task| task.number >= count)
+            .map(|task| stands(task.number)),
+        missing: wanted()
+            .filter(|stands| stands.positions.is_empty())
+            .map(|stands| stands.number)
+            .collect(),
         counts: (!add_up).then_some(counts),
         neighbours: neighbours(&tasks).filter(|_| add_up),
     };
     (!found.is_none()).then_some(found)
-}
-
-fn twice(tasks: &[Task]) -> Option<(Task, Task)> {
-    let earlier = |at: usize, task: &Task| {
-        let same = tasks
-            .iter()
-            .take(at)
-            .find(|other| other.number == task.number);
-        same.map(|other| (*other, *task))
-    };
-    let mut behind = tasks.iter().enumerate();
-    behind.find_map(|(at, task)| earlier(at, task))
 }
 
 fn neighbours(tasks: &[Task]) -> Option<(Task, Task)> {

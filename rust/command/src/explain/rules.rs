@@ -216,6 +216,7 @@ pub fn named(layout: Layout, refusal: Refusal, fault: Option<&Fault>) -> Vec<usi
 
 #[cfg(test)]
 mod tests {
+    use super::super::order::Stands;
     use super::super::samples::{chained, changed, Rng, FULL, GROUPED};
     use super::*;
     use homvaits::check;
@@ -265,8 +266,9 @@ mod tests {
     }
 
     fn disordered(disorder: &Disorder) -> bool {
-        let twice = disorder.twice.is_some_and(|(a, b)| a.number == b.number);
-        let numbers = twice || disorder.beyond.is_some();
+        let repeated = disorder.repeated.as_ref();
+        let repeated = repeated.is_some_and(|stands| stands.positions.len() > 1);
+        let numbers = repeated || disorder.beyond.is_some();
         assert_eq!(numbers, !disorder.missing.is_empty());
         let neighbours = disorder.neighbours.is_some_and(|(front, back)| {
             assert_eq!((front.core, front.position + 1), (back.core, back.position));
@@ -422,11 +424,15 @@ mod tests {
             other => panic!("{other:?}"),
         };
         let twice = order(&[(52, 2)]);
-        let positions = twice.twice.map(|(a, b)| (a.number, a.position, b.position));
-        assert_eq!((positions, twice.missing), (Some((2, 3, 4)), vec![0]));
+        let stands =
+            |stands: Option<Stands>| stands.map(|stands| (stands.number, stands.positions));
+        let often = stands(twice.repeated);
+        assert_eq!((often, twice.missing), (Some((2, vec![3, 4])), vec![0]));
         let beyond = order(&[(12, 99)]);
-        let task = beyond.beyond.map(|task| (task.position, task.number));
-        assert_eq!((task, beyond.missing), (Some((0, 99)), vec![3]));
+        let at = stands(beyond.beyond);
+        assert_eq!((at, beyond.missing), (Some((99, vec![0])), vec![3]));
+        let often = stands(order(&[(32, 2), (52, 2)]).repeated);
+        assert_eq!(often, Some((2, vec![2, 3, 4])));
         let counts = order(&[(68, 3)]);
         assert_eq!((counts.counts, counts.neighbours), (Some(vec![3, 3]), None));
         for (changes, pair) in [
