@@ -15,6 +15,8 @@ cargo run -q --release --offline -p compare -- "${1:-1}" "${2:-20}"
 cargo test -q --release --offline -p compare
 (cd ../bench && cargo test -q --release --offline)
 (cd ../rust/homvaits && cargo test -q --release --offline)
+(cd ../rust/command && cargo test -q --release --offline)
 ./c.sh
 ./needs.sh
 ./programs.sh
+./command.sh "${1:-1}"
