@@ -17,12 +17,13 @@ usage: homvaits COMMAND [OPTIONS] FILE..
 `homvaits COMMAND --help` tells more of each. FILE may be -, which is standard
 input. After -- every word is a file.
 
-Exit status: 0 all is well; 1 a sheet or a list is refused, or a job is late;
-2 wrong use, or something could not be read or written.
+Exit status: 0 all is well; 1 a sheet or a list is refused, a job is or can be
+late, or an answer in a log is not the library's; 2 wrong use, or something
+could not be read or written.
 
-Whether a sheet is accepted, what a plan, a moved sheet or a margin is, and how
-a core runs comes from the proved library. docs/SHEET.md of the repository says
-what each number means.
+Whether a sheet is accepted, what a plan, a moved sheet or a list's margin is,
+and how a core runs come from the proved library. docs/SHEET.md of the
+repository says what the number of each refusal means.
 ";
 
 pub const CHECK: &str = "\
@@ -31,8 +32,8 @@ usage: homvaits check [--quiet] [--json] [--ending TEXT] PATH..
 Says of each sheet whether it is accepted: its version, how many tasks and
 cores it has, and each core's load in thousandths; or which rule it breaks and
 where. Folders are gone through, with the folders in them. Every file in them
-counts as a sheet, hidden ones too; links to folders are not followed. A
-summary follows where there was a folder or more than one file.
+counts as a sheet, hidden ones too; links to folders in them are not followed.
+A summary follows where there was a folder or more than one file.
 
   --quiet        says nothing of sheets that are accepted, and no summary (in
                  JSON it stays)
@@ -46,8 +47,9 @@ file at all.
 pub const LIST: &str = "\
 usage: homvaits list SHEET
 
-Prints the listing of a sheet: a line for each task and for each core, or one
-line such as `refused 14 place 64`, byte for byte as the proved program `list`.
+Prints the listing of a sheet: a line for the sheet, for each task and for each
+core; or one line such as `refused 14 place 64`. It is the library's proved
+listing, byte for byte.
 
 Status 1 if the sheet is refused.
 ";
@@ -73,7 +75,7 @@ has one, its name; blank lines; and comments from # on.
     9 7 receiver
 
 A job's number is its place in the list, from 0. A name begins with a letter,
-goes to the end of the line, and has at most 40 characters.
+goes to the end of the line or to a #, and has at most 40 characters.
 
   -o SHEET      writes the sheet (- is standard output, and no words then)
   --cores N     takes at most N cores, 0 to 8; 8 if left out
@@ -130,11 +132,12 @@ Every log goes through the on-time rule.
                  nothing is promised; a job has its period to end in
   -o LOG         writes the log there, and prints the table alone
 
-A log is text, a call a line: `release 0`, `finish 0`, `tick`, each with its
-answer behind it (`accepted`, `refused 18 place 0`; the task's number or `idle`
-for a tick). Lines without an answer may be given to --calls too, and `ticks 5`
-for five of them; 5000000 calls at most. A line `core 1` says whose calls
-follow. # begins a comment.
+A log is text. Its first line is `homvaits log 1`. For each core there follow a
+line `core 0` (or `bench`), its tasks (`task 0 period 5 budget 1 within 4`), and
+a call a line: `release 0`, `finish 0`, `tick`, each with its answer behind it
+(`accepted`, `refused 18 place 0`; the task's number or `idle` for a tick). #
+begins a comment. --calls takes calls without answers too, `ticks 5` for five
+ticks, and, where one core is run, calls alone; 5000000 of them at most.
 Where a line has another answer than the library gives, that is said, and the
 status is 1.
 
@@ -142,13 +145,14 @@ Status 1 if a sheet or list is refused, a job is late or an answer is another.
 ";
 
 pub const DRAW: &str = "\
-usage: homvaits draw SHEET [OPTIONS]
-       homvaits draw LOG [--core K] [--names JOBS] [-o PICTURE] [--text]
+usage: homvaits draw SHEET [OPTIONS OF run] [-o PICTURE] [--text [--width N]]
+       homvaits draw LOG [--core K] [--names JOBS] [-o PICTURE] [--text ..]
 
 Draws a run as an SVG picture: a row for each task in order of priority, with
 its releases, the ticks that it ran, the moment by which each job must have
 ended, and the calls that were refused; and a row of the idle ticks. It makes
-the run, with the options of `homvaits run`, or draws a log as it stands.
+the run, with the options of `homvaits run` (with --bench SHEET is a job list),
+or draws a log as it stands.
 
   -o PICTURE  writes it there; standard output if left out
   --text      draws with letters, for a terminal

@@ -1,4 +1,4 @@
-//! The command `homvaits`. Every verdict, plan, state, margin and moved sheet comes from the proved library, through the crate
+//! The command `homvaits`. Every verdict, plan, state, moved sheet and margin of a list comes from the proved library, through the crate
 //! `homvaits`; the command reads, words, counts and draws.
 
 mod args;
@@ -97,15 +97,16 @@ fn main() -> ExitCode {
     let mut out = Out::new();
     let outcome = dispatch(words, &mut out);
     // what was worked out before a failure is printed before it is told
-    let written = out.end();
-    let status = match outcome.and_then(|status| written.map(|()| status)) {
-        Ok(status) => status,
-        Err(failure) => {
-            files::tell(&failure.text);
-            failure.status
-        }
-    };
-    ExitCode::from(status)
+    let written = out.end().map(|()| WELL);
+    ExitCode::from(told(outcome).max(told(written)))
+}
+
+/// The status of an outcome; a failure is told.
+fn told(outcome: Outcome) -> u8 {
+    outcome.unwrap_or_else(|failure| {
+        files::tell(&failure.text);
+        failure.status
+    })
 }
 
 fn dispatch(words: Vec<OsString>, out: &mut Out) -> Outcome {

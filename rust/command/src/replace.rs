@@ -22,7 +22,7 @@ pub fn not_to_terminal(to: &OsStr) -> Result<(), Failure> {
     }
 }
 
-/// What is written is none of the files that are read.
+/// What is written is none of the files that are read by name.
 pub fn not_an_input(to: &OsStr, inputs: &[Option<&OsStr>]) -> Result<(), Failure> {
     let file = |path: &OsStr| {
         let there = fs::metadata(path).ok().filter(fs::Metadata::is_file)?;

@@ -42,7 +42,7 @@ pub fn run(args: &Args, out: &mut Out) -> Outcome {
     Ok(status("run", &made, told.late))
 }
 
-/// Tells the differences, by the name of the command, and the exit status.
+/// Tells the differences, by the name of the command, and answers the exit status.
 pub fn status(command: &str, made: &Made, late: bool) -> u8 {
     let tell = |text: &String| tell(&format!("homvaits {command}: {text}"));
     made.differences.iter().for_each(tell);

@@ -1,4 +1,4 @@
-//! A run drawn with letters: a column for each tick, wrapped into bands as wide as the terminal.
+//! A run drawn with letters: a column for each tick, wrapped into bands that fit the width.
 
 mod flow;
 #[cfg(test)]

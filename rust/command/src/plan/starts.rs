@@ -28,12 +28,7 @@ pub fn best(list: &JobList, limit: u8, lines: &mut Vec<String>) -> Result<(Sheet
     // of several the first
     let best = planned.clone().min_by_key(|(_, sheet)| sheet.cores().len());
     let Some((start, sheet)) = best else {
-        return Err(Failure::refused(format!(
-            "{}: refused 15 (No fit): none of the {} gives a plan on {}",
-            list.file,
-            counted(plans.len() as u64, "start"),
-            at_most(limit)
-        )));
+        return Err(no_plan(list, plans.len(), limit));
     };
     let fewest = sheet.cores().len();
     let few = planned.filter(|(_, sheet)| sheet.cores().len() == fewest);
@@ -46,6 +41,15 @@ pub fn best(list: &JobList, limit: u8, lines: &mut Vec<String>) -> Result<(Sheet
         ),
     });
     Ok((sheet.clone(), start))
+}
+
+fn no_plan(list: &JobList, starts: usize, limit: u8) -> Failure {
+    let none = match starts {
+        1 => "the only start gives no plan".to_owned(),
+        _ => format!("none of the {starts} starts gives a plan"),
+    };
+    let (file, cores) = (&list.file, at_most(limit));
+    Failure::refused(format!("{file}: refused 15 (No fit): {none} on {cores}"))
 }
 
 fn at_most(limit: u8) -> String {

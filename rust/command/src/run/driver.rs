@@ -65,7 +65,7 @@ impl Driver {
         }
     }
 
-    /// A release or a finish, mostly of a task of the core.
+    /// A release or a finish of a task of the core or, once in as many times as it has tasks and one more, of any number.
     fn any_call(&self, rng: &mut Rng) -> Call {
         let tasks = self.core.tasks();
         let number = match tasks.get(rng.below(tasks.len() as u64 + 1) as usize) {

@@ -268,7 +268,10 @@ impl Differences {
     fn sentences(mut self) -> Vec<String> {
         let more = self.count - self.first.len();
         if more > 0 {
-            let more = format!("and {more} more answers are not the library's");
+            let more = match more {
+                1 => "and 1 more answer is not the library's".to_owned(),
+                _ => format!("and {more} more answers are not the library's"),
+            };
             self.first.push(more);
         }
         self.first

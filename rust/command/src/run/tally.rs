@@ -41,8 +41,8 @@ pub fn told(logs: &[Log]) -> Told {
     }
 }
 
-/// A task's line. Of a late job that is pending, or was finished when its last tick had begun, is known only that it ends after more
-/// ticks than that.
+/// A task's line. Of a late job that is pending, or was finished right behind its w-th tick, it is known only that it took more ticks
+/// than those counted.
 fn row(origin: Origin, task: &Task, tally: Tally) -> Vec<String> {
     let within = usize::from(task.within);
     let margin = |ticks: usize| within as i64 - ticks as i64;
@@ -97,9 +97,10 @@ impl Sums {
         self.open += open.count();
         if let (None, Some(job)) = (&self.first, late.clone().min_by_key(|job| job.due)) {
             let task = log.tasks[job.row].label();
-            let (origin, released, due) = (log.origin.line(), job.released, job.due);
+            let (origin, due) = (log.origin.line(), job.due);
+            let released = counted(job.released as u64, "tick");
             self.first = Some(format!(
-                "the first on {origin}: task {task}, released after {released} ticks, had to end by tick {due}"
+                "the first on {origin}: task {task}, released after {released}, had to end by tick {due}"
             ));
         }
     }

@@ -20,7 +20,7 @@ const ENTRIES: [(&str, &str); 8] = [
 ];
 
 const LINES: [&str; 2] = [
-    "The numbers of the axis are moments: how many ticks have passed. Other calls are on numbers that no task of the core has.",
+    "The numbers of the axis are moments: how many ticks have passed. Other calls are refused ticks, and calls on numbers that no task has.",
     "p is the period of a task, e its budget, and w within how many ticks of its release a job must have ended.",
 ];
 
