@@ -21,20 +21,17 @@ pub fn run(args: &Args, out: &mut Out) -> Outcome {
     make::keeps_inputs(args)?;
     let made = make::runs(args)?;
     let told = tally::told(&made.logs);
-    let to = args.value("-o").filter(|&to| to != OsStr::new("-"));
-    match to {
+    let log = whole(&made.logs);
+    match args.value("-o").filter(|&to| to != OsStr::new("-")) {
         None => {
-            out.line(FIRST_LINE);
-            for log in &made.logs {
-                out.write(log.text().as_bytes());
-            }
+            out.write(log.as_bytes());
             // comments, so that what was printed is a log
             told.lines
                 .iter()
                 .for_each(|line| out.line(&format!("# {line}")));
         }
         Some(to) => {
-            replace(to, whole(&made.logs).as_bytes())?;
+            replace(to, log.as_bytes())?;
             told.lines.iter().for_each(|line| out.line(line));
             out.line(&format!("{}: the log", shown(to)));
         }

@@ -4,10 +4,11 @@ use std::ffi::OsStr;
 
 use homvaits::{Core, Sheet, Word};
 
+use super::driver::Driver;
 use crate::failure::Failure;
 use crate::files::shown;
 use crate::jobs::JobList;
-use crate::log::{Origin, Task};
+use crate::log::{Log, Origin, Task};
 use crate::wording;
 
 /// A core that was started, and its tasks in order of priority.
@@ -15,6 +16,19 @@ pub struct Started {
     pub origin: Origin,
     pub core: Core,
     pub tasks: Vec<Task>,
+}
+
+impl Started {
+    /// The log of what is done on it.
+    pub fn run(self, work: impl FnOnce(&mut Driver)) -> Log {
+        let mut driver = Driver::new(self.core);
+        work(&mut driver);
+        Log {
+            origin: self.origin,
+            tasks: self.tasks,
+            entries: driver.entries,
+        }
+    }
 }
 
 /// The cores of a sheet, or the one that is named; and how many tasks the sheet has.

@@ -3,7 +3,6 @@
 use std::ffi::OsStr;
 
 use super::cores::{self, Started};
-use super::driver::Driver;
 use crate::args::{flag, valued, Args, OptionSpec};
 use crate::failure::Failure;
 use crate::files::read_front;
@@ -35,13 +34,6 @@ const MOST_DIFFERENCES: usize = 10;
 pub struct Made {
     pub logs: Vec<Log>,
     pub differences: Vec<String>,
-}
-
-/// What is to be done on each core.
-enum Plan {
-    Earliest(usize),
-    Random(usize, u64),
-    Told(Calls),
 }
 
 /// Runs what the file of the arguments has.
@@ -131,24 +123,22 @@ fn looked_at(args: &Args) -> Result<(), Failure> {
 }
 
 fn drive(args: &Args, started: Vec<Started>) -> Result<Made, Failure> {
-    let plan = match args.value("--calls") {
-        Some(path) => Plan::Told(Calls::read(path)?),
-        None => {
-            let ticks = args.number("--ticks", 1, MOST_TICKS)?;
-            let ticks = ticks.map_or_else(|| enough(&started), |ticks| ticks as usize);
-            match args.number("--random", 0, u64::MAX)? {
-                Some(seed) => Plan::Random(ticks, seed),
-                None => Plan::Earliest(ticks),
-            }
-        }
-    };
-    match plan {
-        Plan::Told(calls) => told(calls, started, args.has("--core")),
-        _ => Ok(Made {
-            logs: started.into_iter().map(|core| free(core, &plan)).collect(),
-            differences: Vec::new(),
-        }),
+    if let Some(path) = args.value("--calls") {
+        return told(&Calls::read(path)?, started, args.has("--core"));
     }
+    let ticks = args.number("--ticks", 1, MOST_TICKS)?;
+    let ticks = ticks.map_or_else(|| enough(&started), |ticks| ticks as usize);
+    let seed = args.number("--random", 0, u64::MAX)?;
+    let run = |core: Started| {
+        core.run(|driver| match seed {
+            Some(seed) => driver.random(ticks, seed),
+            None => driver.earliest(ticks),
+        })
+    };
+    Ok(Made {
+        logs: started.into_iter().map(run).collect(),
+        differences: Vec::new(),
+    })
 }
 
 /// Twice the longest period, from 40 to 2,000.
@@ -158,40 +148,18 @@ fn enough(started: &[Started]) -> usize {
     (2 * usize::from(longest)).clamp(40, 2_000)
 }
 
-/// A run by itself.
-fn free(started: Started, plan: &Plan) -> Log {
-    let mut driver = Driver::new(started.core);
-    match *plan {
-        Plan::Random(ticks, seed) => driver.random(ticks, seed),
-        Plan::Earliest(ticks) => driver.earliest(ticks),
-        Plan::Told(_) => {}
-    }
-    Log {
-        origin: started.origin,
-        tasks: started.tasks,
-        entries: driver.entries,
-    }
-}
-
 /// Runs of the calls that are told, on the cores that they are told of.
-fn told(calls: Calls, started: Vec<Started>, one_core: bool) -> Result<Made, Failure> {
+fn told(calls: &Calls, started: Vec<Started>, one_core: bool) -> Result<Made, Failure> {
     let mut started = started;
     let mut logs = Vec::new();
     let mut differences = Differences::default();
     for part in calls.parts.iter().filter(|part| !part.is_empty()) {
-        let Some(mut core) = core_of(&calls, part, &mut started, one_core)? else {
+        let Some(mut core) = core_of(calls, part, &mut started, one_core)? else {
             continue;
         };
-        same_tasks(&calls, part, &mut core.tasks)?;
-        let mut driver = Driver::new(core.core);
-        driver.told(&part.calls, |told, answer| {
-            differences.add(|| difference(&calls, told, answer));
-        });
-        logs.push(Log {
-            origin: core.origin,
-            tasks: core.tasks,
-            entries: driver.entries,
-        });
+        same_tasks(calls, part, &mut core.tasks)?;
+        let differs = |told: &Told, answer| differences.add(|| difference(calls, told, answer));
+        logs.push(core.run(|driver| driver.told(&part.calls, differs)));
     }
     if let (true, [core]) = (one_core, started.as_slice()) {
         let (file, what) = (&calls.file, core.origin.line());
