@@ -3,6 +3,7 @@
 
 use bench::{plain, workload};
 use inputs::Rng;
+use reference::IDLE;
 use std::hint::black_box;
 use std::time::Instant;
 
@@ -70,13 +71,20 @@ fn plan(rng: &mut Rng) {
 }
 
 fn tick() {
+    let (full, eight) = (workload::last_pending(64), workload::last_pending(8));
+    ticks("64 tasks, only the last pending", full, 63);
+    ticks("64 tasks, none pending", workload::none_pending(64), IDLE);
+    ticks("8 tasks, only the last pending", eight, 7);
+}
+
+/// Ticks from this state, all with this answer.
+fn ticks(name: &str, first: reference::Core, task: u8) {
     const TICKS: usize = 50_000;
-    let first = workload::last_pending();
     let run = |call: fn(reference::Core) -> reference::TickAnswer| {
         let mut core = first;
         for _ in 0..TICKS {
             let answer = call(black_box(core));
-            assert_eq!(answer.task, 63);
+            assert_eq!(answer.task, task);
             core = answer.core;
         }
         core
@@ -86,7 +94,7 @@ fn tick() {
         run(binding::tick),
         "they differ on a tick"
     );
-    println!("tick on a core of 64 tasks, only the last pending:");
+    println!("tick on a core of {name}:");
     compare(TICKS, || run(plain::tick), || run(binding::tick));
 }
 

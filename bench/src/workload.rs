@@ -53,17 +53,24 @@ pub fn full_lists(rng: &mut Rng, count: usize) -> Vec<Vec<u8>> {
     lists
 }
 
-/// A core of 64 tasks of which only the last is pending, for 60,000 ticks.
-pub fn last_pending() -> Core {
-    let mut jobs: Vec<(u16, u16)> = (0..63).map(|i| (1000 + i, 1)).collect();
+/// A core of so many tasks of which only the last is pending, for 60,000 ticks.
+pub fn last_pending(count: u16) -> Core {
+    let mut jobs: Vec<(u16, u16)> = (0..count - 1).map(|i| (1000 + i, 1)).collect();
     jobs.push((60_000, 60_000));
     let entry =
         |(period, budget): (u16, u16)| [period.to_le_bytes(), budget.to_le_bytes()].concat();
     let list: Vec<u8> = jobs.into_iter().flat_map(entry).collect();
     let start = reference::start_list(&list);
-    let release = reference::release(start.core, 63);
+    let release = reference::release(start.core, count as u64 - 1);
     assert_eq!((start.refusal, release.refusal), (0, 0));
     release.core
+}
+
+/// The same core with that job finished.
+pub fn none_pending(count: u16) -> Core {
+    let finish = reference::finish(last_pending(count), count as u64 - 1);
+    assert_eq!(finish.refusal, 0);
+    finish.core
 }
 
 /// So many lists of 64 jobs that ask for 70% to 95% of one core. The periods

@@ -87,7 +87,12 @@ fn plan() {
 fn tick() {
     let mut rng = Rng::new(3);
     let any = (0..20_000).map(|turn| any_core(&mut rng, turn % CORE_DAMAGES));
-    for core in any.chain([workload::last_pending()]) {
+    let timed = [
+        workload::last_pending(64),
+        workload::none_pending(64),
+        workload::last_pending(8),
+    ];
+    for core in any.chain(timed) {
         let expected = reference::tick(core);
         assert_eq!(plain::tick(core), expected);
         assert_eq!(binding::tick(core), expected);

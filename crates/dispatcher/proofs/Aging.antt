@@ -44,7 +44,7 @@ map-more f [] i h = absurd (omega arith)
 map-more f (t ∷ l) zero h = refl
 map-more f (t ∷ l) (suc i) h = ap (λ x. f t ∷ x) (map-more f l i (omega arith))
 
-map-at : (f : Task → Task) (l : List Task) (i : ℕ) → getD (map f (take i l) ++ drop i l) i noTask ≡ getD l i noTask
+pub map-at : (f : Task → Task) (l : List Task) (i : ℕ) → getD (map f (take i l) ++ drop i l) i noTask ≡ getD l i noTask
 map-at f [] zero = refl
 map-at f [] (suc i) = refl
 map-at f (t ∷ l) zero = refl

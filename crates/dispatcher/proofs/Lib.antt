@@ -2,8 +2,11 @@ pub mod Places
 pub mod Aging
 pub mod Starting
 pub mod Foreign
+pub mod Bits
 pub mod Pass
+pub mod Gathering
 pub mod Outcomes
+pub mod Ticking
 pub mod Logs
 pub mod Schedule
 pub mod Starts

@@ -1,12 +1,12 @@
 -- Each way out of release, finish and tick, as the code returns it.
 -- Assumes nothing.
-use Prim.Native.Nat.{ℕ, suc, _≤_, _<_, _-_, _*_}
+use Prim.Native.Nat.{ℕ, zero, suc, _≤_, _<_, _-_, _*_}
 use mathlib.Core.Path.{_≡_, refl, sym, ap, _∙_}
 use mathlib.Core.Bool.{Bool, true, false, cond}
-use mathlib.Core.List.{List, [], _∷_, map}
+use mathlib.Core.List.{List, [], _∷_, _++_, map}
 use native.Mathlib.Omega.{arith}
-use lib.ListN.{length, take, drop, set, take-append-drop}
-use lib.Seq.{getD-take, length-take-le, take-set-lt, drop-set-lt, set-getD}
+use lib.ListN.{length, take, drop, set, take-append-drop, length-map, List·getD-append, List·getD-map}
+use lib.Seq.{getD-take, length-take-le, take-set-lt, drop-set-lt, set-getD, set-append-left}
 use lib.Dec.{ltb}
 use borrow.Author.Tests.{lt-ltb, le-ltb, ltb-true, ltb-false}
 use mir.Val.{Fits}
@@ -16,7 +16,7 @@ use Rattle.sheet.specs.declared.Refusal.{Refusal}
 use Rattle.sheet.specs.Refusals.{numberOf}
 use Rattle.fit.specs.Lists.{placeOf}
 use Rattle.timing.specs.declared.Task.{Task}
-use Rattle.timing.specs.Calls.{Call, Answer, ofFirst, modify, answer, next, release, finish, tick, idle, accepted, refused, releaseAnswer, finishAnswer, tickAnswer}
+use Rattle.timing.specs.Calls.{Call, Answer, ofFirst, modify, answer, next, release, finish, tick, idle, accepted, served, refused, releaseAnswer, finishAnswer, tickAnswer}
 use Rattle.timing.specs.Serving.{noTask, nth}
 use Rattle.timing.specs.Tasks.{pending, early, named, withJob, released, finished, used, older}
 use Rattle.dispatcher.specs.declared.Core.{Core}
@@ -63,6 +63,12 @@ missing q (t ∷ s) h = go (q t) refl h (missing q s)
         let x = r (omega arith) in
         record { answers = λ f d. rw e (x .answers f d); changes = λ g. rw e (ap (λ l. t ∷ l) (x .changes g)) }
 
+-- one of a list changed, and then all
+map-set : (f : Task → Task) (l : List Task) (i : ℕ) (t : Task) → map f (set l i t) ≡ set (map f l) i (f t)
+map-set f [] i t = refl
+map-set f (u ∷ l) zero t = refl
+map-set f (u ∷ l) (suc i) t = ap (λ r. f u ∷ r) (map-set f l i t)
+
 -- a state with its own tasks, and with one of them changed
 pub same-tasks : (s : Core) → withTasks s (tasksOf s) ≡ s
 unfolding withTasks
@@ -80,9 +86,12 @@ pub accepts : (s v : Core) (i : ℕ) (t : Task) → v ≡ changed s i t → reco
 accepts s v i t h = ap (λ (x : Core). record { answer = Accepted; core = x }) h
 
 -- 21
-pub op-foreign : (c : Call) (s : Core) (b : Bool) (r : Step) → b ≡ foreign s → b ≡ true → r ≡ refusal s Foreign 0 → Operation c s r
+pub op-refused : (c : Call) (s : Core) (r : Step) → true ≡ foreign s → r ≡ refusal s Foreign 0 → Operation c s r
 unfolding ask step
-op-foreign c s b r e x y = record { answer = rw (y, ← e, x); core = rw (y, ← e, x) }
+op-refused c s r e y = record { answer = rw (y, ← e); core = rw (y, ← e) }
+
+op-foreign : (c : Call) (s : Core) (b : Bool) (r : Step) → b ≡ foreign s → b ≡ true → r ≡ refusal s Foreign 0 → Operation c s r
+op-foreign c s b r e x y = op-refused c s r (sym x ∙ e) y
 
 module _ (s : Core) (b : Bool) (e : b ≡ foreign s) (x : b ≡ false) where
   -- what a state in form answers and hands back
@@ -151,18 +160,29 @@ module _ (s : Core) (b : Bool) (e : b ≡ foreign s) (x : b ≡ false) where
         unfolding pending
         pending-left = ltb-true 0 _ (ap pending (sym (task-at pending i at h)) ∙ hit pending i at h .passes)
 
-        -- a tick that goes to the first pending task
-        pub tick-serves : (u : Task) (v r : Core) → u ≡ withJob (nth (s .tasks) i) (nth (s .tasks) i .age) (nth (s .tasks) i .left - 1) → v ≡ changed s i u → r ≡ withTasks v (map older (tasksOf v)) → Operation tick s (record { answer = Served (nth (s .tasks) i .number); core = r })
-        unfolding answer next used withTasks
-        tick-serves u v r k o y =
-            let m = hit pending i at h in
-            let e : u ≡ used (nth (tasksOf s) i) = k ∙ ap used (sym (task-at pending i at h)) in
-            let front : take (s .count) (set (s .tasks) i u) ≡ modify pending used (tasksOf s) = take-set-lt (s .count) (s .tasks) i u h ∙ ap (set (tasksOf s) i) e ∙ sym (m .changes used) in
-            let back : drop (s .count) (set (s .tasks) i u) ≡ drop (s .count) (s .tasks) = drop-set-lt (s .count) (s .tasks) i u h in
-            record {
-              answer = sym (native-ask tick ∙ m .answers tickAnswer idle ∙ ap tickAnswer (task-at pending i at h));
-              core = y ∙ rw o (rw (front, back) (sym (native-step tick)));
-            }
+        -- a tick that goes to the first pending task, once every task is older
+        module _ (v : Core) (k : v ≡ withTasks s (map older (tasksOf s))) where
+          abbrev old : Task
+          old = nth (tasksOf s) i
+
+          aged-task : nth (v .tasks) i ≡ older old
+          unfolding withTasks older withJob
+          aged-task = ap (λ w. nth (w .tasks) i) k ∙ List·getD-append (map older (tasksOf s)) (drop (s .count) (s .tasks)) noTask i (simp length-map (omega (arith, many))) ∙ List·getD-map older (tasksOf s) i noTask
+
+          pub aged-left : 1 ≤ nth (v .tasks) i .left
+          unfolding older withJob
+          aged-left = rw (aged-task, task-at pending i at h) pending-left
+
+          pub tick-serves : (u : Task) → u ≡ withJob (nth (v .tasks) i) (nth (v .tasks) i .age) (nth (v .tasks) i .left - 1) → Operation tick s (record { answer = Served (nth (v .tasks) i .number); core = record { count = v .count; tasks = set (v .tasks) i u } })
+          unfolding answer next used older withJob withTasks
+          tick-serves u e =
+              let m = hit pending i at h in
+              let o : u ≡ used (older old) = e ∙ ap used aged-task in
+              let front : set (v .tasks) i u ≡ map older (set (tasksOf s) i (used old)) ++ drop (s .count) (s .tasks) = ap (λ w. set (w .tasks) i u) k ∙ set-append-left (map older (tasksOf s)) (drop (s .count) (s .tasks)) i u (simp length-map (omega (arith, many))) ∙ ap (λ l. l ++ drop (s .count) (s .tasks)) (ap (set (map older (tasksOf s)) i) o ∙ sym (map-set older (tasksOf s) i (used old))) in
+              record {
+                answer = ap (λ t. served (t .number)) aged-task ∙ sym (native-ask tick ∙ m .answers tickAnswer idle);
+                core = state-is _ (s .count) _ (ap (λ w. w .count) k) front ∙ sym (native-step tick ∙ ap (λ l. withTasks s (map older l)) (m .changes used));
+              }
 
 -- the place of a named task, as it is looked for
 module _ (s : Core) (j : ℕ) (b : Bool) (e : b ≡ foreign s) where

@@ -1,61 +1,72 @@
--- The one pass that tests a state's own form, step by step as the code goes: what it knows after i tasks, and each of its answers.
+-- The one pass that tests a state's own form: what it knows after some tasks, and what each of its answers means.
 -- Assumes nothing.
-use Prim.Native.Nat.{ℕ, zero, suc, _+_, _≤_, _<_}
-use mathlib.Core.Path.{_≡_, refl, sym, ap, subst, _∙_, subst₂}
+use Prim.Native.Nat.{ℕ, suc, _+_, _/_, _%_, _^_, _≤_, _<_, max}
+use mathlib.Core.Path.{_≡_, refl, sym, ap, subst, _∙_}
 use mathlib.Core.Logic.{_⊎_, inl, inr, ⊎-elim}
-use mathlib.Core.Bool.{Bool, true, false, _||_, true≢false, false≢true}
+use mathlib.Core.Bool.{Bool, true, false, _||_, true≢false}
 use mathlib.Core.List.{List, [], _∷_, _++_}
-use native.Mathlib.Numerals.{add-one}
 use native.Mathlib.Decide.{decLt, ℕ-discrete}
+use native.Mathlib.Nat.{mod-eq-of-lt}
+use native.Mathlib.Numerals.{add-one}
 use native.Mathlib.Omega.{arith}
-use lib.ListN.{length, getD, take, set, replicate, length-set, length-take, getD-replicate}
-use lib.Seq.{getD-take, take-suc, getD-set-same, getD-set-other, length-take-le}
-use borrow.Author.Tests.{eqb-true, eqb-false, eq-eqb, ne-eqb}
+use lib.ListN.{length, take, length-append, List·getD-append}
+use lib.Seq.{getD-append-seam, take-at, take-suc, take-take, length-take-le}
+use lib.Dec.{ltb, leb}
+use lib.Bits.{bitOr, or-lt}
+use lib.Count.{ones, ones-ones}
+use borrow.Author.Tests.{ltb-false, le-ltb, leb-false, lt-leb}
 use Rattle.fit.specs.Lists.{Each, EachPair}
-use Rattle.fit.proofs.Lists.{each-of, each-both, each-append, each-at, pairs-append}
+use Rattle.fit.proofs.Lists.{each-of, each-both, each-append, each-halves, each-at, pairs-of, pairs-take, pairs-append, pairs-before}
 use Rattle.timing.specs.declared.Task.{Task}
-use Rattle.timing.specs.Tasks.{named}
 use Rattle.timing.specs.Form.{Sound, Distinct, Above, Form}
 use Rattle.timing.specs.Serving.{noTask, nth}
+use Rattle.timing.proofs.Form.{form-take}
 use Rattle.dispatcher.specs.declared.Core.{Core}
-use Rattle.dispatcher.specs.State.{tasksOf, InForm, sound, foreign}
-use Rattle.dispatcher.specs.Steps.{rank}
-use Rattle.dispatcher.proofs.Foreign.{form-foreign, is-foreign, sound-true, sound-false}
+use Rattle.dispatcher.specs.declared.form.Pass.{Pass}
+use Rattle.dispatcher.specs.Steps.{rank, breaks, begun, passed, endsForeign}
+use Rattle.dispatcher.specs.State.{tasksOf, foreign}
+use Rattle.dispatcher.proofs.Foreign.{is-foreign, form-foreign}
+use Rattle.dispatcher.proofs.Bits.{bit, bit-most, bit-zero, bit-or, bit-same, bit-other, ones-bit, or-left, or-right}
 
--- some task has this number
-unfoldable pub among : ℕ → List Task → Bool
-among n [] = false
-among n (t ∷ s) = named n t || among n s
+-- a test says exactly that something does not hold
+record Fails (b : Bool) (P : Type 0) : Type 0 where
+  pub holds : b ≡ false → P
+  pub fails : P → b ≡ false
 
-among-last : (n : ℕ) (s : List Task) (t : Task) → among n (s ++ t ∷ []) ≡ (named n t || among n s)
-unfolding among
-among-last n [] t = refl
-among-last n (u ∷ s) t = ap (λ b. named n u || b) (among-last n s t) ∙ swap (named n u) (named n t) (among n s)
+neither : {a b : Bool} {P Q : Type 0} → Fails a P → Fails b Q → Fails (a || b) (P × Q)
+neither {a} {b} x y = go a b x y
   where
-    swap : (a b c : Bool) → (a || (b || c)) ≡ (b || (a || c))
-    swap true true c = refl
-    swap true false c = refl
-    swap false b c = refl
+    go : {P Q : Type 0} (a b : Bool) → Fails a P → Fails b Q → Fails (a || b) (P × Q)
+    go true b x y = record { holds = λ e. absurd (true≢false e); fails = λ h. absurd (true≢false (x .fails (h .0))) }
+    go false b x y = record { holds = λ e. (x .holds refl, y .holds e); fails = λ h. y .fails (h .1) }
 
-among-none : (n : ℕ) (s : List Task) → among n s ≡ false → Each (λ t. t .number ≡ n → ⊥) s
-unfolding among named Each
-among-none n [] e = tt
-among-none n (t ∷ s) e = go (named n t) refl e (among-none n s)
-  where
-    go : (b : Bool) → named n t ≡ b → (b || among n s) ≡ false → (among n s ≡ false → Each (λ u. u .number ≡ n → ⊥) s) → (t .number ≡ n → ⊥) × Each (λ u. u .number ≡ n → ⊥) s
-    go true x y r = absurd (true≢false y)
-    go false x y r = (eqb-false _ _ x, r y)
+fails-lt : (m n : ℕ) → Fails (ltb m n) (n ≤ m)
+fails-lt m n = record { holds = ltb-false m n; fails = le-ltb m n }
 
-among-some : (n : ℕ) (s : List Task) → among n s ≡ true → (k : ℕ) × (k < length s) × (nth s k .number ≡ n)
-unfolding among named
-among-some n [] e = absurd (false≢true e)
-among-some n (t ∷ s) e = go (named n t) refl e (among-some n s)
-  where
-    go : (b : Bool) → named n t ≡ b → (b || among n s) ≡ true → (among n s ≡ true → (k : ℕ) × (k < length s) × (nth s k .number ≡ n)) → (k : ℕ) × (k < length (t ∷ s)) × (nth (t ∷ s) k .number ≡ n)
-    go true x y r = (0, omega arith, eqb-true _ _ x)
-    go false x y r = let m = r y in (suc (m .0), omega (arith, m .1), m .2)
+fails-le : (m n : ℕ) → Fails (leb m n) (n < m)
+fails-le m n = record { holds = leb-false m n; fails = lt-leb m n }
 
--- ranks rise with the priority order of sound tasks
+-- a task whose own fields but for its number and the longest period are in range
+pub record Bounded (t : Task) : Type 0 where
+  pub budget-min : 1 ≤ t .budget
+  pub budget-max : t .budget ≤ t .period
+  pub age-max : t .age ≤ t .period
+  pub left-max : t .left ≤ t .budget
+
+fails-breaks : (last : ℕ) (t : Task) → Fails (breaks last t) ((last < rank t) × ((1 ≤ t .budget) × ((t .budget ≤ t .period) × ((t .age ≤ t .period) × (t .left ≤ t .budget)))))
+fails-breaks last t = neither (fails-le _ _) (neither (fails-lt _ _) (neither (fails-lt _ _) (neither (fails-lt _ _) (fails-lt _ _))))
+
+fails-ends : (p : Pass) (n : ℕ) → Fails (endsForeign p n) ((p .joined ≤ 63) × ((p .last / 64 ≤ 60000) × (n ≤ ones (p .seen))))
+fails-ends p n = neither (fails-lt _ _) (neither (fails-lt _ _) (fails-lt _ _))
+
+-- the test and the step of the pass as the code makes them
+pub breaks-is : (here last : ℕ) (t : Task) → here ≡ rank t → (leb here last || (ltb (t .budget) 1 || (ltb (t .period) (t .budget) || (ltb (t .period) (t .age) || ltb (t .budget) (t .left))))) ≡ breaks last t
+breaks-is here last t e = rw e
+
+pub passed-is : (p : Pass) (t : Task) (here b : ℕ) → here ≡ rank t → b ≡ 2 ^ (t .number % 64) → _≡_ {A = Pass} (record { last = here; joined = bitOr (p .joined) (t .number); seen = bitOr (p .seen) b }) (passed p t)
+passed-is p t here b e f = λ i. record { last = e i; joined = bitOr (p .joined) (t .number); seen = bitOr (p .seen) (f i) }
+
+-- ranks rise with the priority order of tasks whose numbers are at most 63
 rank-above : (t u : Task) → t .number ≤ 63 → u .number ≤ 63 → rank t < rank u → Above t u
 unfolding Above
 rank-above t u a b h = go (decLt (t .period) (u .period))
@@ -69,105 +80,190 @@ unfolding Above
 above-rank t u a (inl h) = omega arith
 above-rank t u a (inr h) = omega arith
 
--- two tasks of a list that stand in a relation pair by pair
-pairs-at : (R : Task → Task → Type 0) (s : List Task) (k i : ℕ) → k < i → i < length s → EachPair R s → R (nth s k) (nth s i)
-unfolding EachPair
-pairs-at R [] k i h l p = absurd (omega arith)
-pairs-at R (t ∷ s) k zero h l p = absurd (omega arith)
-pairs-at R (t ∷ s) zero (suc i) h l p = each-at (R t) noTask s i (omega arith) (p .0)
-pairs-at R (t ∷ s) (suc k) (suc i) h l p = pairs-at R s k i (omega arith) (omega arith) (p .1)
+-- the bit of a task's number, and two tasks with different bits
+abbrev slot : Task → ℕ
+slot t = t .number % 64
 
--- what is known after the first i tasks: they are in form, `last` is the rank of the last one, and the marks are their numbers
-pub record Passed (l : List Task) (i last : ℕ) (seen : List Bool) : Type 0 where
-  pub size : length seen ≡ 64
-  pub all-sound : Each Sound (take i l)
-  pub distinct : EachPair Distinct (take i l)
-  pub ordered : EachPair Above (take i l)
-  pub ranked : Each (λ t. rank t ≤ last) (take i l)
-  pub latest : (last ≡ 0) ⊎ ((k : ℕ) × (k < i) × (rank (nth l k) ≡ last))
-  pub marks : (n : ℕ) → n < 64 → getD seen n false ≡ among n (take i l)
+abbrev Apart : Task → Task → Type 0
+Apart t u = slot t ≡ slot u → ⊥
 
-pub pass-start : (l : List Task) (seen : List Bool) → seen ≡ replicate 64 false → Passed l 0 0 seen
-unfolding Each EachPair among
-pass-start l seen e = record {
-  size = ap length e;
-  all-sound = tt;
-  distinct = tt;
-  ordered = tt;
+-- the bits that are set are those of the tasks so far, and there are as many as tasks exactly where no two have the same
+pub record Seen (old : List Task) (seen : ℕ) : Type 0 where
+  pub held : (n : ℕ) → bit n seen ≡ 1 → (k : ℕ) × (k < length old) × (slot (nth old k) ≡ n)
+  pub set : Each (λ t. bit (slot t) seen ≡ 1) old
+  pub most : ones seen ≤ length old
+  pub apart : length old ≤ ones seen → EachPair Apart old
+  pub counted : EachPair Apart old → length old ≤ ones seen
+
+-- what is known after some tasks
+pub record Passed (old : List Task) (p : Pass) : Type 0 where
+  pub bounded : Each Bounded old
+  pub rising : EachPair (λ t u. rank t < rank u) old
+  pub ranked : Each (λ t. rank t ≤ p .last) old
+  pub latest : (p .last ≡ 0) ⊎ ((k : ℕ) × (k < length old) × (rank (nth old k) ≡ p .last))
+  pub above : Each (λ t. t .number ≤ p .joined) old
+  pub below : Each (λ t. t .number < 64) old → p .joined < 64
+  pub seen : Seen old (p .seen)
+
+pub passed-start : Passed [] begun
+unfolding Each EachPair
+passed-start = record {
+  bounded = tt;
+  rising = tt;
   ranked = tt;
   latest = inl refl;
-  marks = λ n h. ap (λ x. getD x n false) e ∙ getD-replicate 64 n false false h;
+  above = tt;
+  below = λ h. omega arith;
+  seen = record { held = λ n e. absurd (omega (arith, e, bit-zero n)); set = tt; most = omega (arith, ones-ones 0); apart = λ h. tt; counted = λ h. omega arith };
 }
 
--- more than 64 tasks
+-- the pairs of the front of a list
+pairs-front : (R : Task → Task → Type 0) (xs ys : List Task) → EachPair R (xs ++ ys) → EachPair R xs
+pairs-front R xs ys h = subst (EachPair R) (take-at xs ys (length xs) refl) (pairs-take R (length xs) (xs ++ ys) h)
+
+-- one task more
+module _ (old : List Task) (t : Task) where
+  -- it stands behind the others
+  behind : nth (old ++ t ∷ []) (length old) ≡ t
+  behind = getD-append-seam old t [] noTask
+
+  before : (k : ℕ) → k < length old → nth (old ++ t ∷ []) k ≡ nth old k
+  before k h = List·getD-append old (t ∷ []) noTask k h
+
+  more : length (old ++ t ∷ []) ≡ length old + 1
+  more = length-append old (t ∷ [])
+
+  -- its bit is put in
+  module _ (seen : ℕ) (s : Seen old seen) where
+    kept : (n : ℕ) → bit n seen ≡ 1 → bit n (bitOr seen (2 ^ slot t)) ≡ 1
+    kept n e = omega (arith, bit-or n seen (2 ^ slot t), e, bit-most n (2 ^ slot t))
+
+    own : bit (slot t) (bitOr seen (2 ^ slot t)) ≡ 1
+    own = omega (arith, bit-or (slot t) seen (2 ^ slot t), bit-same (slot t), bit-most (slot t) seen)
+
+    found : (n : ℕ) → bit n (bitOr seen (2 ^ slot t)) ≡ 1 → Dec (n ≡ slot t) → (k : ℕ) × (k < length (old ++ t ∷ [])) × (slot (nth (old ++ t ∷ []) k) ≡ n)
+    found n e (yes y) = (length old, omega (arith, more), ap slot behind ∙ sym y)
+    found n e (no y) =
+        let m = s .held n (omega (arith, e, bit-or n seen (2 ^ slot t), bit-other n (slot t) y)) in
+        (m .0, omega (arith, m .1, more), ap slot (before (m .0) (m .1)) ∙ m .2)
+
+    -- where the bit is new, the task is apart from those before, and the other way round
+    new-apart : bit (slot t) seen ≡ 0 → Each (λ u. Apart u t) old
+    new-apart z = each-of old (λ u h e. omega (arith, z, h, ap (λ n. bit n seen) e)) (s .set)
+
+    apart-new : Each (λ u. Apart u t) old → bit (slot t) seen ≡ 1 → ⊥
+    apart-new h e =
+        let m = s .held (slot t) e in
+        each-at (λ u. Apart u t) noTask old (m .0) (m .1) h (m .2)
+
+    seen-turn : Seen (old ++ t ∷ []) (bitOr seen (2 ^ slot t))
+    unfolding Each EachPair
+    seen-turn = record {
+      held = λ n e. found n e (ℕ-discrete n (slot t));
+      set = each-append (λ u. bit (slot u) (bitOr seen (2 ^ slot t)) ≡ 1) old (t ∷ []) (each-of old (λ u h. kept (slot u) h) (s .set)) (own, tt);
+      most = omega (arith, more, ones-bit (slot t) seen, s .most);
+      apart = λ h.
+          let z : bit (slot t) seen ≡ 0 = omega (arith, h, more, ones-bit (slot t) seen, s .most) in
+          pairs-append Apart old (t ∷ []) (s .apart (omega (arith, h, more, ones-bit (slot t) seen, z))) (tt, tt) (each-of old (λ u k. (k, tt)) (new-apart z));
+      counted = λ h.
+          let z : bit (slot t) seen ≡ 0 = zero-or-one (bit (slot t) seen) (bit-most (slot t) seen) (apart-new (pairs-before Apart old t [] h)) in
+          omega (arith, more, ones-bit (slot t) seen, z, s .counted (pairs-front Apart old (t ∷ []) h));
+    }
+      where
+        zero-or-one : (n : ℕ) → n ≤ 1 → (n ≡ 1 → ⊥) → n ≡ 0
+        zero-or-one n h k = go (ℕ-discrete n 1)
+          where
+            go : Dec (n ≡ 1) → n ≡ 0
+            go (yes y) = absurd (k y)
+            go (no y) = omega (arith, y)
+
+  module _ (p : Pass) (s : Passed old p) where
+    -- a task that does not break the form
+    pub passed-turn : breaks (p .last) t ≡ false → Passed (old ++ t ∷ []) (passed p t)
+    unfolding Each EachPair
+    passed-turn e =
+        let h = fails-breaks (p .last) t .holds e in
+        record {
+          bounded = each-append Bounded old (t ∷ []) (s .bounded) (record { budget-min = h .1 .0; budget-max = h .1 .1 .0; age-max = h .1 .1 .1 .0; left-max = h .1 .1 .1 .1 }, tt);
+          rising = pairs-append (λ u v. rank u < rank v) old (t ∷ []) (s .rising) (tt, tt) (each-of old (λ u k. (omega (arith, h .0, k), tt)) (s .ranked));
+          ranked = each-append (λ u. rank u ≤ rank t) old (t ∷ []) (each-of old (λ u k. omega (arith, h .0, k)) (s .ranked)) (omega arith, tt);
+          latest = inr (length old, omega (arith, more), ap rank behind);
+          above = each-append (λ u. u .number ≤ bitOr (p .joined) (t .number)) old (t ∷ []) (each-of old (λ u k. omega (arith, k, or-left (p .joined) (t .number))) (s .above)) (or-right (p .joined) (t .number), tt);
+          below = λ k.
+              let halves = each-halves (λ u. u .number < 64) old (t ∷ []) k in
+              or-lt 6 (p .joined) (t .number) (s .below (halves .0)) (halves .1 .0);
+          seen = seen-turn (p .seen) (s .seen);
+        }
+
+    -- a task that breaks it is in no state in form
+    pub breaks-form : breaks (p .last) t ≡ true → Form (old ++ t ∷ []) → ⊥
+    unfolding Each
+    breaks-form e f =
+        let sounds = each-halves Sound old (t ∷ []) (f .sound) in
+        let own : Sound t = sounds .1 .0 in
+        let before : Each (λ u. Above u t) old = pairs-before Above old t [] (f .ordered) in
+        let later : Each (λ u. rank u < rank t) old = each-both old (λ u a b. above-rank u t (a .number-max) b) (sounds .0) before in
+        let after : p .last < rank t = ⊎-elim (λ z. omega (arith, own .period-min)) (λ k. omega (arith, k .2, each-at (λ u. rank u < rank t) noTask old (k .0) (k .1) later)) (s .latest) in
+        true≢false (sym e ∙ fails-breaks (p .last) t .fails (after, (own .budget-min, (own .budget-max, (own .age-max, own .left-max)))))
+
+-- the end of the pass
+module _ (old : List Task) (p : Pass) (s : Passed old p) where
+  small : (u : Task) → u .number < 64 → slot u ≡ u .number
+  small u h = mod-eq-of-lt h
+
+  pub ends-form : length old ≤ 64 → endsForeign p (length old) ≡ false → Form old
+  unfolding Distinct
+  ends-form room e =
+      let h = fails-ends p (length old) .holds e in
+      let low : Each (λ u. u .number ≤ 63) old = each-of old (λ u k. omega (arith, k, h .0)) (s .above) in
+      let short : Each (λ u. u .period ≤ 60000) old = each-of old (λ u k. omega (arith, k, h .1 .0)) (s .ranked) in
+      let ranges : Each (λ u. (u .number ≤ 63) × (u .period ≤ 60000)) old = each-both old (λ u a b. (a, b)) low short in
+      record {
+        count = room;
+        sound = each-both old (λ u a c. record { number-max = a .0; period-min = omega (arith, c .budget-min, c .budget-max); period-max = a .1; budget-min = c .budget-min; budget-max = c .budget-max; age-max = c .age-max; left-max = c .left-max }) ranges (s .bounded);
+        distinct = pairs-of old (λ u v a b d x. d (ap (λ n. n % 64) x)) low (s .seen .apart (h .1 .1));
+        ordered = pairs-of old (λ u v a b r. rank-above u v a b r) low (s .rising);
+      }
+
+  pub ends-broken : endsForeign p (length old) ≡ true → Form old → ⊥
+  unfolding Distinct
+  ends-broken e f =
+      let low : Each (λ u. u .number < 64) old = each-of old (λ u k. omega (arith, k .number-max)) (f .sound) in
+      let apart : EachPair Apart old = pairs-of old (λ u v a b d x. d (sym (small u a) ∙ x ∙ small v b)) low (f .distinct) in
+      let last : p .last / 64 ≤ 60000 = ⊎-elim (λ z. omega (arith, z)) (λ k. omega (arith, k .2, each-at Sound noTask old (k .0) (k .1) (f .sound) .number-max, each-at Sound noTask old (k .0) (k .1) (f .sound) .period-max)) (s .latest) in
+      true≢false (sym e ∙ fails-ends p (length old) .fails (omega (arith, s .below low), (last, s .seen .counted apart)))
+
+-- The same of a state, as the code goes from task to task.
 pub too-many : (s : Core) → 64 < s .count → true ≡ foreign s
 too-many s h = is-foreign s (λ f. omega (arith, f .count))
 
-module _ (s : Core) (i last : ℕ) (seen : List Bool) (room : length (s .tasks) ≡ 64) (most : s .count ≤ 64) (h : i < s .count) where
-  -- the task at place i, as one of the state's tasks
-  inside : (k : ℕ) → k < s .count → nth (tasksOf s) k ≡ nth (s .tasks) k
-  inside k q = getD-take (s .count) (s .tasks) k noTask q
+pub passed-begun : (l : List Task) (p : Pass) → p ≡ begun → Passed (take 0 l) p
+passed-begun l p e = rw e passed-start
 
-  many : length (tasksOf s) ≡ s .count
-  many = length-take-le (s .count) (s .tasks) (omega arith)
+module _ (s : Core) (i : ℕ) (p : Pass) (room : length (s .tasks) ≡ 64) (most : s .count ≤ 64) (h : i < s .count) (b : Passed (take i (s .tasks)) p) (r : Bool) (e : r ≡ breaks (p .last) (nth (s .tasks) i)) where
+  next-task : take (i + 1) (s .tasks) ≡ take i (s .tasks) ++ nth (s .tasks) i ∷ []
+  next-task = rw (add-one i) (take-suc (s .tasks) i noTask (omega arith))
 
-  form-sound : InForm s → Sound (nth (s .tasks) i)
-  form-sound f = subst Sound (inside i h) (each-at Sound noTask (tasksOf s) i (omega (arith, many)) (f .form .sound))
+  pub pass-turn : (q : Pass) → r ≡ false → q ≡ passed p (nth (s .tasks) i) → Passed (take (i + 1) (s .tasks)) q
+  pass-turn q x y = rw (next-task, y) (passed-turn (take i (s .tasks)) (nth (s .tasks) i) p b (sym e ∙ x))
 
-  form-pairs : (R : Task → Task → Type 0) (k : ℕ) → k < i → EachPair R (tasksOf s) → R (nth (s .tasks) k) (nth (s .tasks) i)
-  form-pairs R k q p = subst₂ R (inside k (omega arith)) (inside i h) (pairs-at R (tasksOf s) k i q (omega (arith, many)) p)
+  pub pass-breaks : r ≡ true → true ≡ foreign s
+  pass-breaks x = is-foreign s (λ f. breaks-form (take i (s .tasks)) (nth (s .tasks) i) p b (sym e ∙ x) (subst Form (take-take (i + 1) (s .count) (s .tasks) (omega arith) ∙ next-task) (form-take (i + 1) (tasksOf s) (f .form))))
 
-  -- a task that is not sound
-  pub unsound : (r : Bool) → r ≡ sound (nth (s .tasks) i) → r ≡ false → true ≡ foreign s
-  unsound r e x = is-foreign s (λ f. sound-false _ (sym e ∙ x) (form-sound f))
+pub pass-end : (s : Core) (i : ℕ) (p : Pass) (r : Bool) → length (s .tasks) ≡ 64 → s .count ≤ 64 → i ≤ s .count → s .count ≤ i → Passed (take i (s .tasks)) p → r ≡ endsForeign p (s .count) → r ≡ foreign s
+pass-end s i p r room most h k b e = go r refl
+  where
+    all : Passed (tasksOf s) p
+    all =
+        let same : i ≡ s .count = omega arith in
+        subst (λ n. Passed (take n (s .tasks)) p) same b
 
-  module _ (p : Passed (s .tasks) i last seen) (r : Bool) (good : r ≡ sound (nth (s .tasks) i)) (yes-sound : r ≡ true) where
-    own : Sound (nth (s .tasks) i)
-    own = sound-true _ (sym good ∙ yes-sound)
+    many : length (tasksOf s) ≡ s .count
+    many = length-take-le (s .count) (s .tasks) (omega arith)
 
-    -- a task whose rank is not above the one before
-    pub out-of-order : (here : ℕ) → here ≡ rank (nth (s .tasks) i) → here ≤ last → true ≡ foreign s
-    out-of-order here e q = is-foreign s (λ f. ⊎-elim (λ z. omega (arith, own .period-min)) (λ k. omega (arith, k .2, above-rank _ _ (earlier (k .0) (k .1)) (form-pairs Above (k .0) (k .1) (f .form .ordered)))) (p .latest))
-      where
-        earlier : (k : ℕ) → k < i → nth (s .tasks) k .number ≤ 63
-        earlier k lt = subst (λ t. t .number ≤ 63) (getD-take i (s .tasks) k noTask lt) (each-at Sound noTask (take i (s .tasks)) k (omega (arith, length-take-le i (s .tasks) (omega arith))) (p .all-sound) .number-max)
+    told : r ≡ endsForeign p (length (tasksOf s))
+    told = e ∙ ap (endsForeign p) (sym many)
 
-    -- a number that was seen before
-    pub repeated : getD seen (nth (s .tasks) i .number) false ≡ true → true ≡ foreign s
-    unfolding Distinct
-    repeated x = is-foreign s (λ f.
-        let m = among-some _ (take i (s .tasks)) (sym (p .marks (nth (s .tasks) i .number) (omega (arith, own .number-max))) ∙ x) in
-        let k = m .0 in
-        let lt : k < i = omega (arith, m .1, length-take-le i (s .tasks) (omega arith)) in
-        form-pairs Distinct k lt (f .form .distinct) (sym (ap (λ t. t .number) (getD-take i (s .tasks) k noTask lt)) ∙ m .2))
-
-    -- a task that passes
-    pub pass-turn : (here : ℕ) → here ≡ rank (nth (s .tasks) i) → last < here → getD seen (nth (s .tasks) i .number) false ≡ false → Passed (s .tasks) (i + 1) here (set seen (nth (s .tasks) i .number) true)
-    unfolding Each EachPair Distinct named
-    pass-turn here e q x =
-        let t : Task = nth (s .tasks) i in
-        let old : List Task = take i (s .tasks) in
-        let cut : take (i + 1) (s .tasks) ≡ old ++ t ∷ [] = rw (add-one i) (take-suc (s .tasks) i noTask (omega arith)) in
-        let small : t .number < 64 = omega (arith, own .number-max) in
-        record {
-          size = length-set seen _ true ∙ p .size;
-          all-sound = subst (Each Sound) (sym cut) (each-append Sound old (t ∷ []) (p .all-sound) (own, tt));
-          distinct = subst (EachPair Distinct) (sym cut) (pairs-append Distinct old (t ∷ []) (p .distinct) (tt, tt) (each-of old (λ u d. (d, tt)) (among-none (t .number) old (sym (p .marks (t .number) small) ∙ x))));
-          ordered = subst (EachPair Above) (sym cut) (pairs-append Above old (t ∷ []) (p .ordered) (tt, tt) (each-both old (λ u g k. (rank-above u t (g .number-max) (own .number-max) (omega arith), tt)) (p .all-sound) (p .ranked)));
-          ranked = subst (Each (λ u. rank u ≤ here)) (sym cut) (each-append (λ u. rank u ≤ here) old (t ∷ []) (each-of old (λ u k. omega arith) (p .ranked)) (omega arith, tt));
-          latest = inr (i, omega arith, sym e);
-          marks = λ n lt. mark n lt (ℕ-discrete n (t .number)) ∙ sym (ap (among n) cut ∙ among-last n old t);
-        }
-      where
-        mark : (n : ℕ) → n < 64 → Dec (n ≡ nth (s .tasks) i .number) → getD (set seen (nth (s .tasks) i .number) true) n false ≡ (named n (nth (s .tasks) i) || among n (take i (s .tasks)))
-        mark n lt (yes y) = rw (y, eq-eqb (nth (s .tasks) i .number) (nth (s .tasks) i .number) refl) (getD-set-same seen _ true false (omega (arith, own .number-max, p .size)))
-        mark n lt (no y) = rw (ne-eqb (nth (s .tasks) i .number) n (λ z. y (sym z))) (getD-set-other seen _ n true false y ∙ p .marks n lt)
-
-pub pass-end : (s : Core) (i last : ℕ) (seen : List Bool) → s .count ≤ 64 → i ≤ s .count → s .count ≤ i → Passed (s .tasks) i last seen → false ≡ foreign s
-pass-end s i last seen most a b p =
-    let e : i ≡ s .count = omega arith in
-    sym (form-foreign s (record { count = most; form = subst (λ n. Form (take n (s .tasks))) e (record { count = simp length-take (omega arith); sound = p .all-sound; distinct = p .distinct; ordered = p .ordered }) }))
-
--- the number of a sound task has its mark
-pub mark-inside : (t : Task) (r : Bool) → r ≡ sound t → r ≡ true → t .number < 64
-mark-inside t r e x = omega (arith, sound-true t (sym e ∙ x) .number-max)
+    go : (x : Bool) → r ≡ x → r ≡ foreign s
+    go true x = x ∙ is-foreign s (λ f. ends-broken (tasksOf s) p all (sym told ∙ x) (f .form))
+    go false x = x ∙ sym (form-foreign s (record { count = most; form = ends-form (tasksOf s) p all (omega (arith, many)) (sym told ∙ x) }))

@@ -1,15 +1,18 @@
 -- What the code's own steps ask and give; no public contract speaks of it.
-use Prim.Native.Nat.{ℕ, _+_, _*_}
-use mathlib.Core.Bool.{cond}
+use Prim.Native.Nat.{ℕ, _+_, _*_, _/_, _%_, _^_}
+use mathlib.Core.Bool.{Bool, cond, _||_}
 use mathlib.Core.List.{List, map}
 use lib.ListN.{set}
-use lib.Dec.{ltb}
+use lib.Dec.{ltb, leb}
+use lib.Bits.{bitOr}
+use lib.Count.{ones}
 use Rattle.sheet.specs.declared.Refusal.{Refusal}
 use Rattle.sheet.specs.declared.Refusal.the-variants.{Foreign, Unlisted}
 use Rattle.fit.specs.Lists.{placeOf}
 use Rattle.timing.specs.declared.Task.{Task}
 use Rattle.timing.specs.Tasks.{named}
 use Rattle.dispatcher.specs.declared.Core.{Core}
+use Rattle.dispatcher.specs.declared.form.Pass.{Pass}
 use Rattle.dispatcher.specs.declared.Spot.{Spot}
 use Rattle.dispatcher.specs.declared.Spot.the-variants.{At, Refused as Missing}
 use Rattle.dispatcher.specs.declared.Step.{Step}
@@ -24,6 +27,23 @@ freshBy p e number l = map (λ j. freshTask (p j) (e j) (number j)) l
 -- a number that rises with the priority order of sound tasks
 abbrev pub rank : Task → ℕ
 rank t = t .period * 64 + t .number
+
+-- A pass over a state's tasks shows whether it is foreign. Task by task: its rank is not above that of the task before, or its budget, age
+-- or ticks left are out of range.
+abbrev pub breaks : ℕ → Task → Bool
+breaks last t =
+    leb (rank t) last || (ltb (t .budget) 1 || (ltb (t .period) (t .budget) || (ltb (t .period) (t .age) || ltb (t .budget) (t .left))))
+
+-- the pass after no task, and after one more
+abbrev pub begun : Pass
+begun = record { last = 0; joined = 0; seen = 0 }
+
+abbrev pub passed : Pass → Task → Pass
+passed p t = record { last = rank t; joined = bitOr (p .joined) (t .number); seen = bitOr (p .seen) (2 ^ (t .number % 64)) }
+
+-- at its end: a number is above 63, the last period above 60,000, or there are fewer numbers than tasks
+abbrev pub endsForeign : Pass → ℕ → Bool
+endsForeign p n = ltb 63 (p .joined) || (ltb 60000 (p .last / 64) || ltb (ones (p .seen)) n)
 
 -- the place of the task with a number: 21, then 17, else where it stands
 unfoldable pub spot : Core → ℕ → Spot

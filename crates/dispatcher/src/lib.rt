@@ -1,4 +1,7 @@
 // The dispatcher of one core: its state, the two starts, and release, finish and tick (docs/SHEET.md, sections 6 and 7).
+mod form;
+mod words;
+
 ghost use mathlib.Core.Path.{_≡_};
 ghost use Prim.Native.Nat.{_+_, _*_, _<_, _≤_};
 ghost use mathlib.Core.List.{[], map};
@@ -52,72 +55,6 @@ pub struct Step {
     pub core: Core,
 }
 
-// Whether a task's own fields are in range.
-fn is_sound(t: Task) -> bool
-    ensures { λ r. ⌜ r ≡ sound t ⌝ }
-{
-    (t.number <= 63)
-        & ((1 <= t.period)
-            & ((t.period <= 60_000)
-                & ((1 <= t.budget)
-                    & ((t.budget <= t.period) & ((t.age <= t.period) & (t.left <= t.budget))))))
-}
-
-// A number that rises with the priority order of sound tasks.
-fn rank_of(t: Task) -> u32
-    ensures { λ r. ⌜ r ≡ rank t ⌝ }
-{
-    (t.period as u32) * 64 + (t.number as u32)
-}
-
-// Whether a state breaks its own form (21), in one pass: each task is sound, ranks above the one before, and has a new number.
-fn is_foreign(core: Core) -> bool
-    ensures { λ r. ⌜ r ≡ foreign core ⌝ }
-{
-    let count = core.count;
-    if 64 < count {
-        return true;
-    }
-    let mut seen = [false; 64];
-    let mut last = 0;
-    let mut i = 0;
-    while i < count {
-        let t = core.tasks[i];
-        if !is_sound(t) {
-            return true;
-        }
-        let here = rank_of(t);
-        if here <= last {
-            return true;
-        }
-        let k = t.number as usize;
-        if seen[k] {
-            return true;
-        }
-        seen[k] = true;
-        last = here;
-        i += 1;
-    }
-    false
-}
-
-// The place of the first pending task, or the number of tasks.
-fn first_pending(core: Core) -> usize
-    requires { ⌜ core .count ≤ 64 ⌝ }
-    ensures { λ r. ⌜ r ≡ placeOf pending (tasksOf core) ⌝ }
-{
-    let count = core.count;
-    let mut i = 0;
-    while i < count {
-        let t = core.tasks[i];
-        if 0 < t.left {
-            return i;
-        }
-        i += 1;
-    }
-    i
-}
-
 // The place of the task with this number, or the number of tasks.
 fn first_named(core: Core, number: u64) -> usize
     requires { ⌜ core .count ≤ 64 ⌝ }
@@ -139,7 +76,7 @@ fn first_named(core: Core, number: u64) -> usize
 fn spot_of(core: Core, number: u64) -> Spot
     ensures { λ r. ⌜ r ≡ spot core number ⌝ }
 {
-    if is_foreign(core) {
+    if form::is_foreign(core) {
         return Spot::Refused(Refusal::Foreign);
     }
     let at = first_named(core, number);
@@ -171,23 +108,6 @@ fn aged(t: Task) -> Task
     } else {
         with_job(t, t.period, t.left)
     }
-}
-
-// The state with every task one tick older.
-fn all_aged(core: Core) -> Core
-    requires { ⌜ core .count ≤ 64 ⌝ }
-    ensures { λ r. ⌜ r ≡ withTasks core (map older (tasksOf core)) ⌝ }
-{
-    let count = core.count;
-    let mut next = core;
-    let mut i = 0;
-    while i < count {
-        let t = next.tasks[i];
-        let later = aged(t);
-        next.tasks[i] = later;
-        i += 1;
-    }
-    next
 }
 
 // A task whose age is its period, with nothing left.
@@ -381,22 +301,41 @@ impl Core {
         ensures refused_unaltered { λ r. ⌜ Unaltered self r ⌝ }
         ensures serves_first { λ r. ⌜ ServesFirst self r ⌝ }
     {
-        if is_foreign(self) {
+        let count = self.count;
+        if 64 < count {
             return refuse(self, Refusal::Foreign, 0);
         }
-        let first = first_pending(self);
-        if self.count <= first {
-            let idle = all_aged(self);
+        let mut next = self;
+        let mut marks = [0; 64];
+        let mut pass = form::begun();
+        let mut i = 0;
+        while i < count {
+            let t = next.tasks[i];
+            if form::breaks(pass, t) {
+                return refuse(self, Refusal::Foreign, 0);
+            }
+            pass = form::passed(pass, t);
+            marks[i] = words::mark(t);
+            let later = aged(t);
+            next.tasks[i] = later;
+            i += 1;
+        }
+        if form::ends_foreign(pass, count) {
+            return refuse(self, Refusal::Foreign, 0);
+        }
+        let first = words::first_marked(&marks, count);
+        if count <= first {
             return Step {
                 answer: Answer::Idle,
-                core: idle,
+                core: next,
             };
         }
-        let t = self.tasks[first];
-        let later = all_aged(with_task(self, first, with_job(t, t.age, t.left - 1)));
+        let t = next.tasks[first];
+        let less = with_job(t, t.age, t.left - 1);
+        next.tasks[first] = less;
         Step {
             answer: Answer::Served(t.number),
-            core: later,
+            core: next,
         }
     }
 }

@@ -20,7 +20,7 @@ use Rattle.figures.proofs.Sound.{divisor-bound, factors-at, factors-bou
 use Rattle.figures.proofs.Ranges.{periods, pivot-low, pivot-high, period-low, period-high}
 use Rattle.figures.proofs.DctLaws.{dct-sound, dct-periods, down-positive, down-bound, downs-length, downs-positive}
 use Rattle.fit.proofs.Lists.{at-padded, padded-length}
-use Rattle.figures.proofs.Filling.{Filled, filled-start, filled-turn, filled-end}
+use Rattle.fit.proofs.Filling.{Filled, filled-start, filled-turn, filled-end}
 
 -- the divisors from place i to the pivot are in the array, and d is the first of them
 pub record DownLoop (ps : List ℕ) (c q : ℕ) (array : List ℕ) (d i : ℕ) : Type 0 where

@@ -6,7 +6,6 @@ pub mod SrLaws
 pub mod DctLaws
 pub mod Passing
 pub mod Climbs
-pub mod Filling
 pub mod Ranges
 pub mod Steps
 pub mod SrLoop

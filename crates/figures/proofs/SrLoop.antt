@@ -17,7 +17,7 @@ use Rattle.figures.proofs.Lists.{at-map}
 use Rattle.figures.proofs.Sound.{rising-pair, divisor-bound, factors-bound}
 use Rattle.figures.proofs.Ranges.{periods, period-high}
 use Rattle.figures.proofs.SrLaws.{sr-sound, sr-multiplier}
-use Rattle.figures.proofs.Filling.{Filled, filled-turn, filled-end}
+use Rattle.fit.proofs.Filling.{Filled, filled-turn, filled-end}
 
 -- m is a power that fits every period from place i on
 pub record SrLoop (b : ℕ) (ps : List ℕ) (c q d m i : ℕ) : Type 0 where

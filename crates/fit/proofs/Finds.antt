@@ -1,16 +1,16 @@
 -- Searches from the front, step by step as the code goes.
 -- Assumes nothing.
 use Prim.Native.Nat.{ℕ, zero, suc, _+_, _-_, _≤_, _<_, zero-le, suc-le-suc}
-use mathlib.Core.Path.{_≡_, refl, sym, _∙_}
+use mathlib.Core.Path.{_≡_, refl, sym, ap, _∙_}
 use mathlib.Core.Bool.{Bool, true, false, cond}
 use mathlib.Core.Option.{Option, none, some, Option·some-ne-none, Option·none-ne-some, Option·some-injective}
-use mathlib.Core.List.{List, [], _∷_}
-use native.Mathlib.Nat.{sub-zero, zero-add}
+use mathlib.Core.List.{List, [], _∷_, _++_, map}
+use native.Mathlib.Nat.{sub-zero, zero-add, suc-add, add-assoc}
 use native.Mathlib.Decide.{ℕ-discrete}
 use native.Mathlib.Numerals.{add-one}
 use native.Mathlib.Omega.{arith}
-use lib.ListN.{length, take, drop, getD, length-take, drop-of-length-le}
-use lib.Seq.{drop-cons, getD-take}
+use lib.ListN.{length, take, drop, getD, length-take, drop-of-length-le, take-append-drop}
+use lib.Seq.{drop-cons, drop-drop, getD-take}
 use lib.Arith.{lt-of-le-ne}
 use Rattle.fit.specs.Lists.{numbers, find, placeOf, orElse, findSome}
 
@@ -165,3 +165,42 @@ place-within q (x ∷ l) = by (q x) (place-within q l)
     by : (b : Bool) → placeOf q l ≤ length l → cond b 0 (suc (placeOf q l)) ≤ suc (length l)
     by true h = zero-le
     by false h = suc-le-suc h
+
+-- a list and another behind it: what is found in the first, and else in the second
+module _ {A : Type 0} (q : A → Bool) where
+  pub place-front : (l r : List A) → placeOf q l < length l → placeOf q (l ++ r) ≡ placeOf q l
+  unfolding placeOf
+  place-front [] r h = absurd (omega arith)
+  place-front (x ∷ l) r h = by (q x) h (place-front l r)
+    where
+      by : (b : Bool) → cond b 0 (suc (placeOf q l)) < suc (length l) → (placeOf q l < length l → placeOf q (l ++ r) ≡ placeOf q l) → cond b 0 (suc (placeOf q (l ++ r))) ≡ cond b 0 (suc (placeOf q l))
+      by true k f = refl
+      by false k f = ap suc (f (omega arith))
+
+  pub place-behind : (l r : List A) → placeOf q l ≡ length l → placeOf q (l ++ r) ≡ length l + placeOf q r
+  unfolding placeOf
+  place-behind [] r h = sym (zero-add _)
+  place-behind (x ∷ l) r h = by (q x) h (place-behind l r)
+    where
+      by : (b : Bool) → cond b 0 (suc (placeOf q l)) ≡ suc (length l) → (placeOf q l ≡ length l → placeOf q (l ++ r) ≡ length l + placeOf q r) → cond b 0 (suc (placeOf q (l ++ r))) ≡ suc (length l) + placeOf q r
+      by true k f = absurd (omega arith)
+      by false k f = ap suc (f (omega arith)) ∙ sym (suc-add (length l) (placeOf q r))
+
+  -- the search goes on by groups of n: one that has none is passed over, else the first of it is found
+  module _ (n i : ℕ) (l : List A) (b : Searched q i l) where
+    pub group-hit : placeOf q (take n (drop i l)) < length (take n (drop i l)) → i + placeOf q (take n (drop i l)) ≡ placeOf q l
+    group-hit h = sym (b .place ∙ ap (λ x. i + placeOf q x) (sym (take-append-drop n (drop i l))) ∙ ap (λ x. i + x) (place-front (take n (drop i l)) (drop n (drop i l)) h))
+
+    pub group-turn : length (take n (drop i l)) ≡ n → placeOf q (take n (drop i l)) ≡ n → Searched q (i + n) l
+    group-turn e h = record {
+      place =
+          b .place ∙ ap (λ x. i + placeOf q x) (sym (take-append-drop n (drop i l)))
+          ∙ ap (λ x. i + x) (place-behind (take n (drop i l)) (drop n (drop i l)) (h ∙ sym e))
+          ∙ rw (e, drop-drop) (sym (add-assoc i n _));
+    }
+
+-- the place of the first whose image passes
+pub place-map : {A B : Type 0} (f : A → B) (q : B → Bool) (p : A → Bool) → ((x : A) → q (f x) ≡ p x) → (l : List A) → placeOf q (map f l) ≡ placeOf p l
+unfolding placeOf
+place-map f q p h [] = refl
+place-map f q p h (x ∷ l) = rw (h x, place-map f q p h l)

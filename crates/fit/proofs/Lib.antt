@@ -12,5 +12,6 @@ pub mod Selecting
 pub mod Presorted
 pub mod Rising
 pub mod Laying
+pub mod Filling
 pub mod Firsts
 pub mod Periodic

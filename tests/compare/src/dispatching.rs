@@ -18,15 +18,33 @@ pub fn must_have_seen(session: &Session) {
     session.must_have_seen("finish", &[(0, "accepted"), (17, none), (20, task)]);
     session.must_have_seen("finish", &[(21, none)]);
     session.must_have_seen("tick", &[(0, "idle"), (0, "served"), (21, none)]);
+    session.must_have_seen("tick", &SERVED_AT.map(|place| (0, place)));
+    session.must_have_seen("tick", &[(0, LAST_PART), (0, PAST)]);
     session.must_have_seen("job on time", &[(0, VERSION_1), (0, VERSION_2)]);
 }
 
 const VERSION_1: &str = "of a version 1 sheet";
 const VERSION_2: &str = "of a version 2 sheet";
 
+/// Where the task that is served stands among its eight, for a library that
+/// looks at eight places at a time.
+const SERVED_AT: [&str; 8] = [
+    "served at place 0 of eight",
+    "served at place 1 of eight",
+    "served at place 2 of eight",
+    "served at place 3 of eight",
+    "served at place 4 of eight",
+    "served at place 5 of eight",
+    "served at place 6 of eight",
+    "served at place 7 of eight",
+];
+const LAST_PART: &str = "served among the last tasks, fewer than eight";
+const PAST: &str = "idle, with ticks left past the tasks in the same eight";
+
 pub fn round(session: &mut Session, rng: &mut Rng) {
     lists(session, rng);
     single_calls(session, rng);
+    pending_sets(session, rng);
     for _ in 0..6 {
         run_of_sheet(session, rng);
         run_of_list(session, rng);
@@ -56,6 +74,49 @@ fn single_calls(session: &mut Session, rng: &mut Rng) {
             for number in [on_core as u64, any_number(rng, 64)] {
                 release(session, core, number);
                 finish(session, core, number);
+            }
+        }
+    }
+}
+
+/// A tick on states of every count: none pending, each task alone, each with
+/// about half of those after it, and random sets from all tasks to few.
+fn pending_sets(session: &mut Session, rng: &mut Rng) {
+    for count in 0..=64 {
+        let quiet = quiet_core(rng, count);
+        let mut sets = vec![0; 8];
+        for place in 0..count {
+            sets.extend([1 << place, (rng.word() | 1) << place]);
+        }
+        let mut set = u64::MAX;
+        for _ in 0..6 {
+            sets.push(set);
+            set &= rng.word();
+        }
+        for set in sets {
+            let core = with_pending(rng, quiet, set);
+            let answer = tick(session, core);
+            assert_eq!(answer.refusal, 0, "the state is in form");
+            kinds_of_tick(session, &core, answer.task);
+        }
+    }
+}
+
+/// The kinds of an accepted tick by where its task stands, in eights.
+fn kinds_of_tick(session: &mut Session, core: &Core, task: u8) {
+    let count = core.count as usize;
+    let served = |other: &reference::Task| other.number == task;
+    match core.used().iter().position(served) {
+        Some(place) => {
+            session.saw("tick", (0, SERVED_AT[place % 8]));
+            if place / 8 == count / 8 {
+                session.saw("tick", (0, LAST_PART));
+            }
+        }
+        None => {
+            let rest = &core.tasks[count..count.next_multiple_of(8)];
+            if rest.iter().any(|task| task.left > 0) {
+                session.saw("tick", (0, PAST));
             }
         }
     }

@@ -41,6 +41,44 @@ fn sound_core(rng: &mut Rng) -> Core {
     core
 }
 
+/// A state in form of so many tasks with any ages, none of them pending.
+pub fn quiet_core(rng: &mut Rng, count: usize) -> Core {
+    let listed = rng.range(count as u64, 64) as usize;
+    let mut tasks = start_list(&job_list(rng, listed)).core.used().to_vec();
+    while tasks.len() > count {
+        tasks.remove(rng.index(tasks.len()));
+    }
+    let mut core = Core::EMPTY;
+    core.count = count as u64;
+    for (place, task) in core.tasks.iter_mut().zip(tasks) {
+        let age = rng.range(0, task.period as u64) as u16;
+        let age = rng.pick(&[task.period, 0, age]);
+        *place = Task { age, ..task };
+    }
+    core
+}
+
+/// A quiet state with the tasks pending whose places have a bit in `pending`.
+/// Past the tasks stand random ones, most of them with ticks left, or zeros.
+pub fn with_pending(rng: &mut Rng, mut core: Core, pending: u64) -> Core {
+    let (tasks, past) = core.tasks.split_at_mut(core.count as usize);
+    for (place, task) in tasks.iter_mut().enumerate() {
+        if pending >> place & 1 == 1 {
+            let any = rng.range(1, task.budget as u64) as u16;
+            // a multiple of 256, if there is one
+            let high = (any & 0xFF00).max(1);
+            task.left = rng.pick(&[1, task.budget, any, high]);
+        }
+    }
+    if !rng.once_in(4) {
+        for task in past {
+            *task = random_task(rng);
+            task.left = rng.pick(&[0, 1, task.left, task.left]);
+        }
+    }
+    core
+}
+
 fn random_task(rng: &mut Rng) -> Task {
     Task {
         period: rng.word() as u16,

@@ -3,7 +3,7 @@ use Prim.Native.Nat.{_-_, _≤_}
 use lib.ListN.{length}
 use Rattle.figures.proofs.Ranges.{ranges}
 use Rattle.figures.specs.Constructions.{sr}
-use Rattle.figures.proofs.Filling.{Filled, filled-start}
+use Rattle.fit.proofs.Filling.{Filled, filled-start}
 use Rattle.figures.proofs.SrLoop.{SrLoop, sr-start, divisor-fits, pivot-positive, limit-small, limit-fits, power-fits, factor-fits, sr-turn, store-turn, store-end}
 use Rattle.figures.proofs.sr.Statement.{statement}
 use Rattle.figures.proofs.sr.Tie as tie

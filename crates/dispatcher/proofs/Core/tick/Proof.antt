@@ -1,71 +1,154 @@
 use borrow.Author.Needs.{needs}
+use Prim.Native.Nat.{_≤_, _-_}
+use mathlib.Core.Path.{refl}
 use Rattle.dispatcher.proofs.Places.{array-length}
 use Rattle.dispatcher.proofs.Logs.{serves-first}
-use Rattle.dispatcher.proofs.Outcomes.{op-foreign, count-max, changed-max, place-room, offset-fits, tick-idles, pending-left, tick-serves}
+use Rattle.dispatcher.proofs.Outcomes.{op-refused}
+use Rattle.dispatcher.proofs.Pass.{too-many}
+use Rattle.dispatcher.proofs.Ticking.{Ticking, ticking-start, ticking-turn, ticking-breaks, ticking-marks, ticking-foreign, ticking-idles, ticking-left, ticking-serves}
 use Rattle.dispatcher.proofs.Core.tick.Statement.{statement}
 use Rattle.dispatcher.proofs.Core.tick.Tie as tie
 use Rattle.dispatcher.proofs.Core.tick.Reads as reads
 use Rattle.dispatcher.proofs.Core.tick.Lts as lts
-use Rattle.dispatcher.proofs.all_aged.Reads as all-aged-reads
-use Rattle.dispatcher.proofs.first_pending.Reads as first-pending-reads
-use Rattle.dispatcher.proofs.is_foreign.Reads as is-foreign-reads
+use Rattle.dispatcher.proofs.aged.Reads as aged-reads
+use Rattle.dispatcher.proofs.form.begun.Reads as begun-reads
+use Rattle.dispatcher.proofs.form.breaks.Reads as breaks-reads
+use Rattle.dispatcher.proofs.form.ends_foreign.Reads as ends-foreign-reads
+use Rattle.dispatcher.proofs.form.passed.Reads as passed-reads
 use Rattle.dispatcher.proofs.refuse.Reads as refuse-reads
 use Rattle.dispatcher.proofs.with_job.Reads as with-job-reads
-use Rattle.dispatcher.proofs.with_task.Reads as with-task-reads
+use Rattle.dispatcher.proofs.words.first_marked.Reads as first-marked-reads
+use Rattle.dispatcher.proofs.words.mark.Reads as mark-reads
 
-is-foreign-requires : tie.Need-is-foreign-requires
-is-foreign-requires c κs = search needs
+abbrev Inv-loop : tie.InvT-loop
+Inv-loop self count next₀ marks₀ pass₀ i₀ next marks pass i = (i ≤ count) × Ticking self i next marks pass
 
-refuse-requires : tie.Need-refuse-requires
+abbrev μ-loop : tie.MeasureT-loop
+μ-loop self count next₀ marks₀ pass₀ i₀ next marks pass i = count - i
+
+refuse-requires : tie.Need-refuse-requires Inv-loop μ-loop
 refuse-requires c κs = search needs
 
-returns : tie.Need-returns
-returns c = serves-first _ _ (search (op-foreign, needs))
+returns : tie.Need-returns Inv-loop μ-loop
+returns c = serves-first _ _ (search (op-refused, too-many, needs))
 
-first-pending-requires : tie.Need-first-pending-requires
-first-pending-requires c κs = search (count-max, needs)
+begun-requires : tie.Need-begun-requires Inv-loop μ-loop
+begun-requires c κs = search needs
 
-all-aged-requires : tie.Need-all-aged-requires
-all-aged-requires c κs = search (count-max, needs)
+loop-holds : tie.Need-loop-holds Inv-loop μ-loop
+loop-holds c = (search needs, ticking-start _ _ _ (search (array-length, needs)) refl (search needs))
 
-returns-2 : tie.Need-returns-2
-returns-2 c = serves-first _ _ (search (tick-idles, array-length, needs))
+mul-t : tie.Need-mul-t Inv-loop μ-loop
+mul-t c = search needs
 
-mul-t : tie.Need-mul-t
-mul-t c = search offset-fits
+element-copy-out-t : tie.Need-element-copy-out-t Inv-loop μ-loop
+element-copy-out-t c = search needs
 
-element-copy-out-t : tie.Need-element-copy-out-t
-element-copy-out-t c = search (place-room, needs)
+breaks-requires : tie.Need-breaks-requires Inv-loop μ-loop
+breaks-requires c κs = search needs
 
-sub-with-job : tie.Need-sub-with-job
-sub-with-job c = search (pending-left, array-length, needs)
+refuse-requires-2 : tie.Need-refuse-requires-2 Inv-loop μ-loop
+refuse-requires-2 c κs = search needs
 
-with-job-requires : tie.Need-with-job-requires
+returns-2 : tie.Need-returns-2 Inv-loop μ-loop
+returns-2 c = serves-first _ _ (search (op-refused, ticking-breaks, array-length, needs))
+
+passed-requires : tie.Need-passed-requires Inv-loop μ-loop
+passed-requires c κs = search needs
+
+mark-requires : tie.Need-mark-requires Inv-loop μ-loop
+mark-requires c κs = search needs
+
+array-write-marks : tie.Need-array-write-marks Inv-loop μ-loop
+array-write-marks c = search needs
+
+aged-requires : tie.Need-aged-requires Inv-loop μ-loop
+aged-requires c κs = search needs
+
+mul-later : tie.Need-mul-later Inv-loop μ-loop
+mul-later c = search needs
+
+element-set-from-later : tie.Need-element-set-from-later Inv-loop μ-loop
+element-set-from-later c = search needs
+
+add-i : tie.Need-add-i Inv-loop μ-loop
+add-i c = search needs
+
+loop-less : tie.Need-loop-less Inv-loop μ-loop
+loop-less c = search needs
+
+loop-again : tie.Need-loop-again Inv-loop μ-loop
+loop-again c = (search needs, search (ticking-turn, array-length, needs))
+
+ends-foreign-requires : tie.Need-ends-foreign-requires Inv-loop μ-loop
+ends-foreign-requires c κs = search needs
+
+refuse-requires-3 : tie.Need-refuse-requires-3 Inv-loop μ-loop
+refuse-requires-3 c κs = search needs
+
+returns-3 : tie.Need-returns-3 Inv-loop μ-loop
+returns-3 c = serves-first _ _ (search (op-refused, ticking-foreign, array-length, needs))
+
+first-marked-requires : tie.Need-first-marked-requires Inv-loop μ-loop
+first-marked-requires c κs = search (ticking-marks, array-length, needs)
+
+returns-4 : tie.Need-returns-4 Inv-loop μ-loop
+returns-4 c = serves-first _ _ (search (ticking-idles, array-length, needs))
+
+mul-t-2 : tie.Need-mul-t-2 Inv-loop μ-loop
+mul-t-2 c = search needs
+
+element-copy-out-t-2 : tie.Need-element-copy-out-t-2 Inv-loop μ-loop
+element-copy-out-t-2 c = search needs
+
+sub-with-job : tie.Need-sub-with-job Inv-loop μ-loop
+sub-with-job c = search (ticking-left, array-length, needs)
+
+with-job-requires : tie.Need-with-job-requires Inv-loop μ-loop
 with-job-requires c κs = search needs
 
-with-task-requires : tie.Need-with-task-requires
-with-task-requires c κs = search (place-room, needs)
+mul-less : tie.Need-mul-less Inv-loop μ-loop
+mul-less c = search needs
 
-all-aged-requires-2 : tie.Need-all-aged-requires-2
-all-aged-requires-2 c κs = search (changed-max, needs)
+element-set-from-less : tie.Need-element-set-from-less Inv-loop μ-loop
+element-set-from-less c = search needs
 
-returns-3 : tie.Need-returns-3
-returns-3 c = serves-first _ _ (search (tick-serves, array-length, needs))
+returns-5 : tie.Need-returns-5 Inv-loop μ-loop
+returns-5 c = serves-first _ _ (search (ticking-serves, array-length, needs))
 
 pub tick-spec : {M : Type 1} → statement M
 tick-spec =
     tie.close
     (tie.spec
-    is-foreign-requires
+    Inv-loop
+    μ-loop
     refuse-requires
     returns
-    first-pending-requires
-    all-aged-requires
-    returns-2
+    begun-requires
+    loop-holds
     mul-t
     element-copy-out-t
+    breaks-requires
+    refuse-requires-2
+    returns-2
+    passed-requires
+    mark-requires
+    array-write-marks
+    aged-requires
+    mul-later
+    element-set-from-later
+    add-i
+    loop-less
+    loop-again
+    ends-foreign-requires
+    refuse-requires-3
+    returns-3
+    first-marked-requires
+    returns-4
+    mul-t-2
+    element-copy-out-t-2
     sub-with-job
     with-job-requires
-    with-task-requires
-    all-aged-requires-2
-    returns-3)
+    mul-less
+    element-set-from-less
+    returns-5)

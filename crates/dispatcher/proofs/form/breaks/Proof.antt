@@ -1,0 +1,16 @@
+use borrow.Author.Needs.{needs}
+use Rattle.dispatcher.proofs.Pass.{breaks-is}
+use Rattle.dispatcher.proofs.form.breaks.Statement.{statement}
+use Rattle.dispatcher.proofs.form.breaks.Tie as tie
+use Rattle.dispatcher.proofs.form.breaks.Reads as reads
+use Rattle.dispatcher.proofs.form.breaks.Lts as lts
+use Rattle.dispatcher.proofs.form.rank_of.Reads as rank-of-reads
+
+rank-of-requires : tie.Need-rank-of-requires
+rank-of-requires c κs = search needs
+
+returns : tie.Need-returns
+returns c = search (breaks-is, needs)
+
+pub breaks-spec : {M : Type 1} → statement M
+breaks-spec = tie.close (tie.spec rank-of-requires returns)

@@ -1,0 +1,41 @@
+-- The pending marks of a core's tasks, eight to a word, by which a tick looks for the first pending task; no public contract speaks of them.
+use Prim.Native.Nat.{ℕ, zero, suc, _+_, _*_, _/_, _%_, _≤_}
+use mathlib.Core.Path.{_≡_}
+use mathlib.Core.Bool.{Bool, cond}
+use mathlib.Core.List.{List, [], _∷_, map}
+use lib.ListN.{take, drop}
+use lib.Dec.{ltb}
+use Rattle.fit.specs.Lists.{padded, Each}
+use Rattle.timing.specs.declared.Task.{Task}
+use Rattle.timing.specs.Tasks.{pending}
+
+-- the mark of a task: 1 where it is pending, else 0
+unfoldable pub mark : Task → ℕ
+mark t = cond (pending t) 1 0
+
+-- a mark is set
+unfoldable pub marked : ℕ → Bool
+marked m = ltb 0 m
+
+-- the marks of a core's tasks, a byte each, in 64 places; past the tasks there is none
+unfoldable pub marksOf : List Task → List ℕ
+marksOf s = padded (map mark s)
+
+-- what an array must be to be the marks of so many tasks: each is 0 or 1, and past the tasks there is none
+pub record Marks (count : ℕ) (m : List ℕ) : Type 0 where
+  pub each : Each (λ b. b ≤ 1) m
+  pub past : m ≡ padded (take count m)
+
+-- bytes as one number, the first of them lowest
+unfoldable pub wordOf : List ℕ → ℕ
+wordOf [] = 0
+wordOf (m ∷ l) = m + 256 * wordOf l
+
+-- word g of the marks: the eight at the places 8g to 8g + 7
+unfoldable pub wordAt : List ℕ → ℕ → ℕ
+wordAt m g = wordOf (take 8 (drop (8 * g) m))
+
+-- byte k of a word
+unfoldable pub byteOf : ℕ → ℕ → ℕ
+byteOf zero w = w % 256
+byteOf (suc k) w = byteOf k (w / 256)

@@ -1,0 +1,89 @@
+// The form of a state, whose breach is 21 Foreign, tested in one pass over its tasks. What can be told at the end is not asked of each task:
+// periods rise, so the last is the longest; numbers joined by their bits show whether one is above 63, and a bit for each whether one
+// stands twice.
+ghost use mathlib.Core.Path.{_≡_};
+ghost use Prim.Native.Nat.{_%_, _^_};
+ghost use Rattle.dispatcher.specs.State.{foreign};
+ghost use Rattle.dispatcher.specs.Steps.{rank, breaks as breaking, begun as beginning, passed as passing, endsForeign};
+use crate::Core;
+use timing::Task;
+
+// What the pass keeps: the rank of the last task, the numbers joined by their bits, and a bit for each number.
+pub(crate) struct Pass {
+    pub last: u32,
+    pub joined: u8,
+    pub seen: u64,
+}
+
+// A number that rises with the priority order of sound tasks.
+fn rank_of(t: Task) -> u32
+    ensures { λ r. ⌜ r ≡ rank t ⌝ }
+{
+    (t.period as u32) * 64 + (t.number as u32)
+}
+
+// The bit that stands for a number.
+fn bit_of(number: u8) -> u64
+    ensures { λ r. ⌜ r ≡ 2 ^ (number % 64) ⌝ }
+{
+    1 << ((number % 64) as u64)
+}
+
+// The pass before the first task.
+pub(crate) fn begun() -> Pass
+    ensures { λ r. ⌜ r ≡ beginning ⌝ }
+{
+    Pass {
+        last: 0,
+        joined: 0,
+        seen: 0,
+    }
+}
+
+// Whether the next task breaks the form.
+pub(crate) fn breaks(pass: Pass, t: Task) -> bool
+    ensures { λ r. ⌜ r ≡ breaking (pass .last) t ⌝ }
+{
+    (rank_of(t) <= pass.last)
+        | ((t.budget < 1) | ((t.period < t.budget) | ((t.period < t.age) | (t.budget < t.left))))
+}
+
+// The pass after the next task.
+pub(crate) fn passed(pass: Pass, t: Task) -> Pass
+    ensures { λ r. ⌜ r ≡ passing pass t ⌝ }
+{
+    Pass {
+        last: rank_of(t),
+        joined: pass.joined | t.number,
+        seen: pass.seen | bit_of(t.number),
+    }
+}
+
+// Whether the pass over all tasks shows that the form is broken, where no task did.
+pub(crate) fn ends_foreign(pass: Pass, count: usize) -> bool
+    ensures { λ r. ⌜ r ≡ endsForeign pass count ⌝ }
+{
+    (63 < pass.joined)
+        | ((60_000 < pass.last / 64) | ((u64::count_ones(pass.seen) as usize) < count))
+}
+
+// Whether a state breaks its own form (21).
+pub(crate) fn is_foreign(core: Core) -> bool
+    ensures { λ r. ⌜ r ≡ foreign core ⌝ }
+{
+    let count = core.count;
+    if 64 < count {
+        return true;
+    }
+    let mut pass = begun();
+    let mut i = 0;
+    while i < count {
+        let t = core.tasks[i];
+        if breaks(pass, t) {
+            return true;
+        }
+        pass = passed(pass, t);
+        i += 1;
+    }
+    ends_foreign(pass, count)
+}
