@@ -82,12 +82,15 @@ ones-bit (suc k) a =
     let rest : ones (bitOr a (2 ^ suc k) / 2) ≡ ones (bitOr (a / 2) (2 ^ k)) = ap ones (or-half a (2 ^ suc k) ∙ ap (bitOr (a / 2)) (power-half k)) in
     omega (arith, ones-step (bitOr a (2 ^ suc k)), ones-step a, low, rest, ones-bit k (a / 2))
 
--- the code's shift, and its count of set bits
+-- the code's shift, and its counts of bits
 pub power-fits : (n : ℕ) → (1 * 2 ^ (n % 64)) % 18446744073709551616 ≡ 2 ^ (n % 64)
 power-fits n =
     let some : 0 < 64 = omega arith in
     let most : 2 ^ (n % 64) ≤ 2 ^ 63 = pow-mono {i = n % 64} {j = 63} (omega (arith, mod-lt n some)) in
     ap (λ x. x % 18446744073709551616) (one-mul (2 ^ (n % 64))) ∙ mod-eq-of-lt (omega (arith, most))
 
+pub count-fits : {n : ℕ} → n ≤ 64 → Fits w64 n
+count-fits h = record { fits = omega arith }
+
 pub ones-fits : {x : ℕ} → Fits w64 x → Fits w64 (ones x)
-ones-fits {x} h = record { fits = omega (arith, ones-le 64 x (h .fits)) }
+ones-fits {x} h = count-fits (ones-le 64 x (h .fits))

@@ -1,8 +1,7 @@
--- Words of eight marks: what a word says of a core's tasks, and the search from word to word as the code goes.
+-- Words of eight marks, and the search from word to word as the code goes.
 -- Assumes nothing.
 use Prim.Native.Nat.{ℕ, zero, suc, _+_, _-_, _*_, _/_, _%_, _^_, _≤_, _<_}
 use mathlib.Core.Path.{_≡_, refl, sym, ap, subst, _∙_}
-use mathlib.Core.Logic.{_↔_}
 use mathlib.Core.Bool.{Bool, true, false, cond, true≢false}
 use mathlib.Core.List.{List, [], _∷_, _++_, map}
 use native.Mathlib.Nat.{suc-add, add-suc, zero-add, mul-one, pow-suc, div-add-mod'}
@@ -14,17 +13,16 @@ use lib.Seq.{length-take-le, take-at}
 use lib.Dec.{ltb}
 use lib.Arith.{lt-of-le-ne}
 use lib.Bits.{shifted-half, shifted-even, block-half, block-odd}
-use lib.Count.{trailingZeros, trailing-le, under}
+use lib.Count.{trailingZeros, under}
 use mir.Val.{Fits}
 use mir.Syntax.{w64}
 use borrow.Author.Tests.{ltb-true, ltb-false, lt-ltb, le-ltb}
 use Rattle.fit.specs.Lists.{at, padded, placeOf, Each}
 use Rattle.fit.proofs.Finds.{Searched, place-start, place-within, place-front, place-behind, group-hit, group-turn, place-map}
-use Rattle.fit.proofs.Lists.{each-of, each-append, each-take, each-halves, each-at, at-padded, padded-length}
+use Rattle.fit.proofs.Lists.{each-of, each-append, each-take, each-halves, padded-length}
 use Rattle.timing.specs.declared.Task.{Task}
 use Rattle.timing.specs.Tasks.{pending}
-use Rattle.timing.specs.Serving.{noTask, nth}
-use Rattle.dispatcher.specs.Words.{mark, marked, marksOf, Marks, wordOf, wordAt, byteOf}
+use Rattle.dispatcher.specs.Words.{mark, marked, marksOf, Marks, wordOf, wordAt}
 
 -- the code's mark of a task
 pub mark-set : (t : Task) → 0 < t .left → 1 ≡ mark t
@@ -38,7 +36,7 @@ mark-clear t h = rw (le-ltb 0 (t .left) h)
 -- zeros below the lowest set bit: j of them and those of r where r is shifted by j, and fewer where a number below 2 ^ j is added
 zeros-high : (j d r : ℕ) → trailingZeros (j + d) (r * 2 ^ j) ≡ j + trailingZeros d r
 unfolding trailingZeros
-zeros-high zero d r = rw (zero-add, mul-one) (sym (zero-add _))
+zeros-high zero d r = rw (zero-add d, mul-one r) (sym (zero-add _))
 zeros-high (suc j) d r = rw (suc-add j d, shifted-even r j, shifted-half r j) (ap suc (zeros-high j d r) ∙ sym (suc-add j _))
 
 zeros-low : (j d b r : ℕ) → 0 < b → b < 2 ^ j → trailingZeros (j + d) (r * 2 ^ j + b) < j
@@ -52,17 +50,18 @@ zeros-low (suc j) d b r p h = rw (suc-add j d, block-odd r j b, block-half r j b
         omega (arith, rec (omega (arith, div-add-mod' b 2)) (omega (arith, div-add-mod' b 2, small)))
     go (suc x) e rec = omega arith
 
+-- a byte below the rest of a word
+pub shifted : (m w : ℕ) → m + 256 * w ≡ w * 256 + m
+shifted m w = omega arith
+
 -- the lowest byte that is not 0
-lowest : (l : List ℕ) → Each (λ b. b < 256) l → trailingZeros (8 * length l) (wordOf l) / 8 ≡ placeOf marked l
+pub lowest : (l : List ℕ) → Each (λ b. b < 256) l → trailingZeros (8 * length l) (wordOf l) / 8 ≡ placeOf marked l
 unfolding Each wordOf placeOf marked trailingZeros
 lowest [] h = refl
-lowest (m ∷ l) h = rw (wide, shifted) (go (ltb 0 m) refl (lowest l (h .1)))
+lowest (m ∷ l) h = rw (wide, shifted m (wordOf l)) (go (ltb 0 m) refl (lowest l (h .1)))
   where
     wide : 8 * suc (length l) ≡ 8 + 8 * length l
     wide = omega arith
-
-    shifted : m + 256 * wordOf l ≡ wordOf l * 2 ^ 8 + m
-    shifted = omega arith
 
     go : (b : Bool) → ltb 0 m ≡ b → trailingZeros (8 * length l) (wordOf l) / 8 ≡ placeOf marked l → trailingZeros (8 + 8 * length l) (wordOf l * 2 ^ 8 + m) / 8 ≡ cond b 0 (suc (placeOf marked l))
     go true e r = omega (arith, zeros-low 8 (8 * length l) m (wordOf l) (ltb-true 0 m e) (h .0))
@@ -76,7 +75,7 @@ unfolding wordOf placeOf marked
 word-none [] e = refl
 word-none (m ∷ l) e = rw (le-ltb 0 m (omega (arith, e))) (ap suc (word-none l (omega (arith, e))))
 
-none-word : (l : List ℕ) → placeOf marked l ≡ length l → wordOf l ≡ 0
+pub none-word : (l : List ℕ) → placeOf marked l ≡ length l → wordOf l ≡ 0
 unfolding wordOf placeOf marked
 none-word [] e = refl
 none-word (m ∷ l) e = go (ltb 0 m) refl e (none-word l)
@@ -85,7 +84,7 @@ none-word (m ∷ l) e = go (ltb 0 m) refl e (none-word l)
     go true x y r = absurd (omega (arith, y))
     go false x y r = omega (arith, ltb-false 0 m x, r (omega (arith, y)))
 
-word-some : (l : List ℕ) → (wordOf l ≡ 0 → ⊥) → placeOf marked l < length l
+pub word-some : (l : List ℕ) → (wordOf l ≡ 0 → ⊥) → placeOf marked l < length l
 word-some l h = go (ℕ-discrete (placeOf marked l) (length l))
   where
     go : Dec (placeOf marked l ≡ length l) → placeOf marked l < length l
@@ -116,12 +115,9 @@ gathered-is m g a b c d low high r ha hb hl hc hd hh hr =
     first : wordOf (take 8 (drop (8 * g) m)) ≡ at m (8 * g) + 256 * wordOf (take 7 (drop (8 * g + 1) m))
     first = rw (add-one (8 * g)) (low-byte m 7 (8 * g))
 
--- the code's count of zeros
-pub zeros-fit : (w : ℕ) → Fits w64 (trailingZeros 64 w)
-zeros-fit w = record { fits = omega (arith, trailing-le 64 w) }
-
-pub place-fits : (g w count : ℕ) → 8 * g < count → count ≤ 64 → Fits w64 (8 * g + trailingZeros 64 w / 8)
-place-fits g w count h k = record { fits = omega (arith, trailing-le 64 w) }
+-- the place that a count of zeros tells
+pub place-fits : (g z count : ℕ) → 8 * g < count → count ≤ 64 → z ≤ 64 → Fits w64 (8 * g + z / 8)
+place-fits g z count h k l = record { fits = omega arith }
 
 -- The search. No mark is set among zeros, so the first that is set in the array is one of the tasks'.
 no-marks : (n : ℕ) → placeOf marked (replicate n 0) ≡ n
@@ -136,10 +132,10 @@ module _ (count : ℕ) (m : List ℕ) (most : count ≤ 64) (k : Marks count m) 
   size : length m ≡ 64
   size = ap length (k .past) ∙ padded-length (take count m) few
 
-  eight : (g : ℕ) → g < 8 → length (take 8 (drop (8 * g) m)) ≡ 8
+  pub eight : (g : ℕ) → g < 8 → length (take 8 (drop (8 * g) m)) ≡ 8
   eight g h = length-take-le 8 (drop (8 * g) m) (simp length-drop (omega (arith, size)))
 
-  bytes : (g : ℕ) → Each (λ x. x < 256) (take 8 (drop (8 * g) m))
+  pub bytes : (g : ℕ) → Each (λ x. x < 256) (take 8 (drop (8 * g) m))
   bytes g = each-of _ (λ x y. omega (arith, y)) (each-take (λ b. b ≤ 1) 8 (drop (8 * g) m) (each-halves (λ b. b ≤ 1) (take (8 * g) m) (drop (8 * g) m) (rw take-append-drop (k .each)) .1))
 
   many : length (take count m) ≡ count
@@ -204,7 +200,7 @@ mark-most t = go (pending t)
     go true = omega arith
     go false = omega arith
 
-mark-marked : (t : Task) → marked (mark t) ≡ pending t
+pub mark-marked : (t : Task) → marked (mark t) ≡ pending t
 unfolding mark marked
 mark-marked t = go (pending t)
   where

@@ -5,6 +5,7 @@ pub mod Foreign
 pub mod Bits
 pub mod Pass
 pub mod Gathering
+pub mod PendingWords
 pub mod Outcomes
 pub mod Ticking
 pub mod Logs

@@ -1,5 +1,5 @@
 -- The pending marks of a core's tasks, eight to a word, by which a tick looks for the first pending task; no public contract speaks of them.
-use Prim.Native.Nat.{ℕ, zero, suc, _+_, _*_, _/_, _%_, _≤_}
+use Prim.Native.Nat.{ℕ, zero, suc, _+_, _*_, _/_, _%_, _≤_, _<_}
 use mathlib.Core.Path.{_≡_}
 use mathlib.Core.Bool.{Bool, cond}
 use mathlib.Core.List.{List, [], _∷_, map}
@@ -8,6 +8,7 @@ use lib.Dec.{ltb}
 use Rattle.fit.specs.Lists.{padded, Each}
 use Rattle.timing.specs.declared.Task.{Task}
 use Rattle.timing.specs.Tasks.{pending}
+use Rattle.timing.specs.Serving.{nth}
 
 -- the mark of a task: 1 where it is pending, else 0
 unfoldable pub mark : Task → ℕ
@@ -39,3 +40,9 @@ wordAt m g = wordOf (take 8 (drop (8 * g) m))
 unfoldable pub byteOf : ℕ → ℕ → ℕ
 byteOf zero w = w % 256
 byteOf (suc k) w = byteOf k (w / 256)
+
+-- the task at place 8g + k is pending, and none of the k before it in its word is
+pub record LowestFirst (s : List Task) (g k : ℕ) : Type 0 where
+  pub inside : k < 8
+  pub pends : 0 < nth s (8 * g + k) .left
+  pub others : (j : ℕ) → j < k → nth s (8 * g + j) .left ≡ 0

@@ -166,6 +166,26 @@ place-within q (x ∷ l) = by (q x) (place-within q l)
     by true h = zero-le
     by false h = suc-le-suc h
 
+-- what is found passes, and nothing before it does
+pub place-passes : {A : Type 0} (d : A) (q : A → Bool) (l : List A) → placeOf q l < length l → q (getD l (placeOf q l) d) ≡ true
+unfolding placeOf
+place-passes d q [] h = absurd (omega arith)
+place-passes d q (x ∷ l) h = by (q x) refl h (place-passes d q l)
+  where
+    by : (b : Bool) → q x ≡ b → cond b 0 (suc (placeOf q l)) < suc (length l) → (placeOf q l < length l → q (getD l (placeOf q l) d) ≡ true) → q (getD (x ∷ l) (cond b 0 (suc (placeOf q l))) d) ≡ true
+    by true e k f = e
+    by false e k f = f (omega arith)
+
+pub place-before : {A : Type 0} (d : A) (q : A → Bool) (l : List A) (i : ℕ) → i < placeOf q l → q (getD l i d) ≡ false
+unfolding placeOf
+place-before d q [] i h = absurd (omega arith)
+place-before d q (x ∷ l) i h = by (q x) refl i h (place-before d q l)
+  where
+    by : (b : Bool) → q x ≡ b → (i : ℕ) → i < cond b 0 (suc (placeOf q l)) → ((i : ℕ) → i < placeOf q l → q (getD l i d) ≡ false) → q (getD (x ∷ l) i d) ≡ false
+    by true e i k f = absurd (omega arith)
+    by false e zero k f = e
+    by false e (suc i) k f = f i (omega arith)
+
 -- a list and another behind it: what is found in the first, and else in the second
 module _ {A : Type 0} (q : A → Bool) where
   pub place-front : (l r : List A) → placeOf q l < length l → placeOf q (l ++ r) ≡ placeOf q l

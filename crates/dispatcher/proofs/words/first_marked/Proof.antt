@@ -1,8 +1,10 @@
 use borrow.Author.Needs.{needs}
 use Prim.Native.Nat.{_+_, _*_, _-_, _≤_}
+use lib.Count.{trailing-le, leading-le}
 use Rattle.fit.proofs.Finds.{Searched, place-start}
 use Rattle.dispatcher.specs.Words.{marked}
-use Rattle.dispatcher.proofs.Gathering.{zeros-fit, place-fits, search-turn, search-hit, search-end}
+use Rattle.dispatcher.proofs.Bits.{count-fits}
+use Rattle.dispatcher.proofs.Gathering.{place-fits, search-turn, search-hit, search-end}
 use Rattle.dispatcher.proofs.words.first_marked.Statement.{statement}
 use Rattle.dispatcher.proofs.words.first_marked.Tie as tie
 use Rattle.dispatcher.proofs.words.first_marked.Reads as reads
@@ -28,10 +30,10 @@ mul-result : tie.Need-mul-result Inv-loop μ-loop
 mul-result c = search needs
 
 cast-result : tie.Need-cast-result Inv-loop μ-loop
-cast-result c = search zeros-fit
+cast-result c = search (count-fits, trailing-le, leading-le)
 
 add-result : tie.Need-add-result Inv-loop μ-loop
-add-result c = search (place-fits, needs)
+add-result c = search (place-fits, trailing-le, leading-le, needs)
 
 returns : tie.Need-returns Inv-loop μ-loop
 returns c = search (search-hit, needs)
