@@ -7,7 +7,7 @@ use native.Mathlib.Omega.{arith}
 use lib.Arith.{digits-div, digits-mod}
 use lib.Pow.{pow-mono}
 use lib.Bits.{bitOr, or-step, or-zero-r, or-add-and, and-le-l, and-le-r, shifted-half, shifted-even}
-use lib.Count.{ones, ones-step, ones-le}
+use lib.Count.{ones, ones-step, ones-le, trailing-le, leading-le}
 use mir.Val.{Fits}
 use mir.Syntax.{w64}
 
@@ -88,6 +88,8 @@ power-fits n =
     let some : 0 < 64 = omega arith in
     let most : 2 ^ (n % 64) ≤ 2 ^ 63 = pow-mono {i = n % 64} {j = 63} (omega (arith, mod-lt n some)) in
     ap (λ x. x % 18446744073709551616) (one-mul (2 ^ (n % 64))) ∙ mod-eq-of-lt (omega (arith, most))
+
+pub ruleset zero-counts = (trailing-le, leading-le)
 
 pub count-fits : {n : ℕ} → n ≤ 64 → Fits w64 n
 count-fits h = record { fits = omega arith }

@@ -4,7 +4,7 @@ use Prim.Native.Nat.{ℕ, zero, suc, _+_, _-_, _*_, _/_, _%_, _^_, _≤_, _<_}
 use mathlib.Core.Path.{_≡_, refl, sym, ap, subst, _∙_}
 use mathlib.Core.Bool.{Bool, true, false, cond, true≢false}
 use mathlib.Core.List.{List, [], _∷_, _++_, map}
-use native.Mathlib.Nat.{suc-add, add-suc, zero-add, mul-one, pow-suc, div-add-mod'}
+use native.Mathlib.Nat.{suc-add, zero-add, mul-one, pow-suc, div-add-mod'}
 use native.Mathlib.Decide.{ℕ-discrete}
 use native.Mathlib.Numerals.{add-one}
 use native.Mathlib.Omega.{arith}
@@ -17,6 +17,7 @@ use lib.Count.{trailingZeros, under}
 use mir.Val.{Fits}
 use mir.Syntax.{w64}
 use borrow.Author.Tests.{ltb-true, ltb-false, lt-ltb, le-ltb}
+use Rattle.sheet.specs.Numbers.{word, long}
 use Rattle.fit.specs.Lists.{at, padded, placeOf, Each}
 use Rattle.fit.proofs.Finds.{Searched, place-start, place-within, place-front, place-behind, group-hit, group-turn, place-map}
 use Rattle.fit.proofs.Lists.{each-of, each-append, each-take, each-halves, padded-length}
@@ -104,16 +105,23 @@ low-byte [] n (suc a) = rw (no-bytes n)
 low-byte (x ∷ m) n zero = refl
 low-byte (x ∷ m) n (suc a) = low-byte m n a
 
-pub gathered-is : (m : List ℕ) (g a b c d low high r : ℕ) → a ≡ at m (8 * g) + 256 * at m (8 * g + 1) → b ≡ at m (8 * g + 2) + 256 * at m (8 * g + 3) → low ≡ a + 65536 * b → c ≡ at m (8 * g + 4) + 256 * at m (8 * g + 5) → d ≡ at m (8 * g + 6) + 256 * at m (8 * g + 7) → high ≡ c + 65536 * d → r ≡ low + 4294967296 * high → r ≡ wordAt m g
-unfolding wordAt wordOf
-gathered-is m g a b c d low high r ha hb hl hc hd hh hr =
-    omega (arith, first, step 6 1, step 5 2, step 4 3, step 3 4, step 2 5, step 1 6, step 0 7)
-  where
-    step : (n k : ℕ) → wordOf (take (suc n) (drop (8 * g + k) m)) ≡ at m (8 * g + k) + 256 * wordOf (take n (drop (8 * g + suc k) m))
-    step n k = rw add-suc (low-byte m n (8 * g + k))
+-- two bytes of it, and four
+two-bytes : (m : List ℕ) (n a : ℕ) → wordOf (take (suc (suc n)) (drop a m)) ≡ word m a + 65536 * wordOf (take n (drop (a + 2) m))
+unfolding word
+two-bytes m n a =
+    let one : suc a ≡ a + 1 = sym (add-one a) in
+    let two : suc (suc a) ≡ a + 2 = omega arith in
+    omega (arith, rw one at (low-byte m (suc n) a), rw (two, one) at (low-byte m n (suc a)))
 
-    first : wordOf (take 8 (drop (8 * g) m)) ≡ at m (8 * g) + 256 * wordOf (take 7 (drop (8 * g + 1) m))
-    first = rw (add-one (8 * g)) (low-byte m 7 (8 * g))
+four-bytes : (m : List ℕ) (n a : ℕ) → wordOf (take (suc (suc (suc (suc n)))) (drop a m)) ≡ long m a + 4294967296 * wordOf (take n (drop (a + 4) m))
+unfolding long
+four-bytes m n a =
+    let four : a + 2 + 2 ≡ a + 4 = omega arith in
+    omega (arith, two-bytes m (suc (suc n)) a, rw four at (two-bytes m n (a + 2)))
+
+pub gathered-is : (m : List ℕ) (g low high r : ℕ) → low ≡ long m (8 * g) → high ≡ long m (8 * g + 4) → r ≡ low + 4294967296 * high → r ≡ wordAt m g
+unfolding wordAt wordOf
+gathered-is m g low high r l h e = omega (arith, four-bytes m 4 (8 * g), four-bytes m 0 (8 * g + 4))
 
 -- the place that a count of zeros tells
 pub place-fits : (g z count : ℕ) → 8 * g < count → count ≤ 64 → z ≤ 64 → Fits w64 (8 * g + z / 8)

@@ -1,6 +1,6 @@
 // The search for the first pending task, a word of eight marks at a time.
 ghost use mathlib.Core.Path.{_≡_};
-ghost use Prim.Native.Nat.{_<_, _≤_};
+ghost use Prim.Native.Nat.{_+_, _*_, _<_, _≤_};
 ghost use lib.ListN.{take};
 ghost use Rattle.fit.specs.Lists.{placeOf};
 ghost use Rattle.dispatcher.specs.Words.{mark as markOf, marked, Marks, wordAt};
@@ -16,21 +16,19 @@ pub(crate) fn mark(t: Task) -> u8
     0
 }
 
+fn join(low: u32, high: u32) -> u64
+    ensures { λ r. ⌜ r ≡ low + 4294967296 * high ⌝ }
+{
+    (low as u64) + 4_294_967_296 * (high as u64)
+}
+
 // Word g of the marks: the mark at place 8g + k is byte k.
 fn gathered(marks: &[u8; 64], g: usize) -> u64
     requires { ⌜ g < 8 ⌝ }
     ensures { λ r. ⌜ r ≡ wordAt (now (marks .entry)) g ⌝ }
 {
     let at = 8 * g;
-    let low = sheet::join16(
-        sheet::join8(marks[at], marks[at + 1]),
-        sheet::join8(marks[at + 2], marks[at + 3]),
-    );
-    let high = sheet::join16(
-        sheet::join8(marks[at + 4], marks[at + 5]),
-        sheet::join8(marks[at + 6], marks[at + 7]),
-    );
-    sheet::join32(low, high)
+    join(sheet::read_long(marks, at), sheet::read_long(marks, at + 4))
 }
 
 // The place of the first mark that is set among the first `count`, or `count`: a word that is zero is passed over, else its lowest mark is it.

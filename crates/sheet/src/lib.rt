@@ -95,24 +95,16 @@ pub fn byte(part: &[u8], at: usize) -> u8
     0
 }
 
-// A number of twice as many bits from its low and its high half.
-
-pub fn join8(low: u8, high: u8) -> u16
+fn join8(low: u8, high: u8) -> u16
     ensures { λ r. ⌜ r ≡ low + 256 * high ⌝ }
 {
     (low as u16) + 256 * (high as u16)
 }
 
-pub fn join16(low: u16, high: u16) -> u32
+fn join16(low: u16, high: u16) -> u32
     ensures { λ r. ⌜ r ≡ low + 65536 * high ⌝ }
 {
     (low as u32) + 65536 * (high as u32)
-}
-
-pub fn join32(low: u32, high: u32) -> u64
-    ensures { λ r. ⌜ r ≡ low + 4294967296 * high ⌝ }
-{
-    (low as u64) + 4_294_967_296 * (high as u64)
 }
 
 // The number of two bytes at a place, low byte first.
