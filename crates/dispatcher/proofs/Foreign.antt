@@ -1,7 +1,7 @@
 -- The test of 21 Foreign says exactly that the state breaks its own form.
 -- Assumes nothing.
 use Prim.Native.Nat.{ℕ, _≤_, _<_}
-use mathlib.Core.Path.{_≡_, refl, sym, _∙_}
+use mathlib.Core.Path.{_≡_, refl}
 use mathlib.Core.Logic.{_⊎_, inl, inr, _↔_}
 use mathlib.Core.Bool.{Bool, true, false, not, _&&_, _||_, true≢false, false≢true, or-true}
 use mathlib.Core.List.{List, [], _∷_}
@@ -99,9 +99,3 @@ is-foreign s k = go (foreign s) refl
     go : (b : Bool) → foreign s ≡ b → true ≡ b
     go true e = refl
     go false e = absurd (k (foreign-form s e))
-
-pub sound-true : (t : Task) → sound t ≡ true → Sound t
-sound-true t e = tells-sound t .holds e
-
-pub sound-false : (t : Task) → sound t ≡ false → Sound t → ⊥
-sound-false t e h = true≢false (sym (tells-sound t .passes h) ∙ e)

@@ -1,8 +1,8 @@
 -- Words of eight marks, and the search from word to word as the code goes.
 -- Assumes nothing.
 use Prim.Native.Nat.{ℕ, zero, suc, _+_, _-_, _*_, _/_, _%_, _^_, _≤_, _<_}
-use mathlib.Core.Path.{_≡_, refl, sym, ap, subst, _∙_}
-use mathlib.Core.Bool.{Bool, true, false, cond, true≢false}
+use mathlib.Core.Path.{_≡_, refl, sym, ap, _∙_}
+use mathlib.Core.Bool.{Bool, true, false, cond}
 use mathlib.Core.List.{List, [], _∷_, _++_, map}
 use native.Mathlib.Nat.{suc-add, zero-add, mul-one, pow-suc, div-add-mod'}
 use native.Mathlib.Decide.{ℕ-discrete}
@@ -19,7 +19,7 @@ use mir.Syntax.{w64}
 use borrow.Author.Tests.{ltb-true, ltb-false, lt-ltb, le-ltb}
 use Rattle.sheet.specs.Numbers.{word, long}
 use Rattle.fit.specs.Lists.{at, padded, placeOf, Each}
-use Rattle.fit.proofs.Finds.{Searched, place-start, place-within, place-front, place-behind, group-hit, group-turn, place-map}
+use Rattle.fit.proofs.Finds.{Searched, place-within, place-front, place-behind, group-hit, group-turn, place-map}
 use Rattle.fit.proofs.Lists.{each-of, each-append, each-take, each-halves, padded-length}
 use Rattle.timing.specs.declared.Task.{Task}
 use Rattle.timing.specs.Tasks.{pending}

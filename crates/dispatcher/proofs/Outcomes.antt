@@ -106,14 +106,11 @@ module _ (s : Core) (b : Bool) (e : b ≡ foreign s) (x : b ≡ false) where
   pub count-max : s .count ≤ 64
   count-max = foreign-form s (sym e ∙ x) .count
 
-  pub changed-max : (v : Core) (i : ℕ) (u : Task) → v ≡ changed s i u → v .count ≤ 64
-  changed-max v i u h = rw h count-max
-
-  pub place-room : {i : ℕ} → i < s .count → i < 64
+  place-room : {i : ℕ} → i < s .count → i < 64
   place-room h = omega (arith, count-max)
 
   -- the offset in bytes of a task of 10 bytes fits in 64 bits
-  pub offset-fits : {i : ℕ} → i < s .count → Fits w64 (i * 10)
+  offset-fits : {i : ℕ} → i < s .count → Fits w64 (i * 10)
   offset-fits h = omega (arith, count-max)
 
   module _ (room : length (s .tasks) ≡ 64) where
@@ -156,7 +153,7 @@ module _ (s : Core) (b : Bool) (e : b ≡ foreign s) (x : b ≡ false) where
           record { answer = sym (native-ask tick ∙ m .answers tickAnswer idle); core = k ∙ sym (native-step tick ∙ ap (λ l. withTasks s (map older l)) (m .changes used)) }
 
       module _ (h : i < s .count) where
-        pub pending-left : 1 ≤ nth (s .tasks) i .left
+        pending-left : 1 ≤ nth (s .tasks) i .left
         unfolding pending
         pending-left = ltb-true 0 _ (ap pending (sym (task-at pending i at h)) ∙ hit pending i at h .passes)
 

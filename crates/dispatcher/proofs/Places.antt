@@ -6,11 +6,11 @@ use mathlib.Core.Bool.{Bool, true, false}
 use mathlib.Core.List.{List, map}
 use native.Mathlib.Omega.{arith}
 use lib.ListN.{length, getD, take, length-map}
-use borrow.Author.Tests.{lt-ltb, le-ltb, eq-eqb, ne-eqb}
+use borrow.Author.Tests.{eq-eqb, ne-eqb}
 use Rattle.fit.specs.Lists.{placeOf}
 use Rattle.fit.proofs.Finds.{Searched, place-hit, place-turn}
 use Rattle.timing.specs.declared.Task.{Task}
-use Rattle.timing.specs.Tasks.{pending, named}
+use Rattle.timing.specs.Tasks.{named}
 use Rattle.timing.specs.Serving.{noTask}
 
 -- a search in the 64 places of a state
@@ -20,14 +20,6 @@ module _ (q : Task → Bool) (i count : ℕ) (l : List Task) (room : length l �
 
   pub task-turn : q (getD l i noTask) ≡ false → Searched q (i + 1) (take count l)
   task-turn e = place-turn noTask q i count l (omega arith) h b e
-
-pub is-pending : (t : Task) → 0 < t .left → pending t ≡ true
-unfolding pending
-is-pending t h = lt-ltb 0 (t .left) h
-
-pub not-pending : (t : Task) → t .left ≤ 0 → pending t ≡ false
-unfolding pending
-not-pending t h = le-ltb 0 (t .left) h
 
 pub is-named : (j : ℕ) (t : Task) → t .number ≡ j → named j t ≡ true
 unfolding named

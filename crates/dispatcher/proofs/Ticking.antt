@@ -1,21 +1,19 @@
 -- The pass of a tick over a state's tasks, which tests its form, gathers the pending marks and makes each task older; and what the tick answers.
 -- Assumes nothing.
 use Prim.Native.Nat.{ℕ, _+_, _-_, _≤_, _<_}
-use mathlib.Core.Path.{_≡_, refl, sym, ap, subst, _∙_}
-use mathlib.Core.Bool.{Bool, true, false, cond}
+use mathlib.Core.Path.{_≡_, sym, ap, _∙_}
+use mathlib.Core.Bool.{Bool, true, false}
 use mathlib.Core.List.{List, map}
 use native.Mathlib.Omega.{arith}
 use lib.ListN.{length, take, set, replicate, length-map, List·getD-map}
-use lib.Seq.{getD-take, length-take-le, take-at}
-use Rattle.fit.specs.Lists.{at, padded, placeOf, Each}
+use lib.Seq.{getD-take, length-take-le}
+use Rattle.fit.specs.Lists.{at, placeOf}
 use Rattle.fit.proofs.Filling.{Filled, filled-start, filled-turn, filled-end}
-use Rattle.fit.proofs.Finds.{place-map}
 use Rattle.timing.specs.declared.Task.{Task}
 use Rattle.timing.specs.Tasks.{pending, withJob, older}
 use Rattle.timing.specs.Calls.{tick}
 use Rattle.timing.specs.Serving.{noTask, nth}
 use Rattle.dispatcher.specs.declared.Core.{Core}
-use Rattle.dispatcher.specs.declared.Step.{Step}
 use Rattle.dispatcher.specs.declared.Answer.the-variants.{Served, Idle}
 use Rattle.dispatcher.specs.declared.form.Pass.{Pass}
 use Rattle.dispatcher.specs.State.{tasksOf, withTasks, foreign}

@@ -295,7 +295,8 @@ impl Core {
         }
     }
 
-    // One tick passes: 21, else the first pending task has one tick less left, and every age rises by one, up to its period.
+    // One tick passes: 21, else the first pending task has one tick less left, and every age rises by one, up to its period. One pass tests
+    // the form, makes the marks and the ages; a function for each would be handed the state by value, and copy it.
     pub fn tick(self) -> Step
         ensures { λ r. ⌜ Operation tick self r ⌝ }
         ensures refused_unaltered { λ r. ⌜ Unaltered self r ⌝ }
