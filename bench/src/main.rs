@@ -71,10 +71,10 @@ fn plan(rng: &mut Rng) {
 }
 
 fn tick() {
-    let (full, eight) = (workload::last_pending(64), workload::last_pending(8));
-    ticks("64 tasks, only the last pending", full, 63);
-    ticks("64 tasks, none pending", workload::none_pending(64), IDLE);
-    ticks("8 tasks, only the last pending", eight, 7);
+    let (last, none) = (workload::last_pending, workload::none_pending);
+    ticks("64 tasks, only the last pending", last(64), 63);
+    ticks("64 tasks, none pending", none(64), IDLE);
+    ticks("8 tasks, only the last pending", last(8), 7);
 }
 
 /// Ticks from this state, all with this answer.

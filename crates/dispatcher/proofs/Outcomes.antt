@@ -86,12 +86,9 @@ pub accepts : (s v : Core) (i : ℕ) (t : Task) → v ≡ changed s i t → reco
 accepts s v i t h = ap (λ (x : Core). record { answer = Accepted; core = x }) h
 
 -- 21
-pub op-refused : (c : Call) (s : Core) (r : Step) → true ≡ foreign s → r ≡ refusal s Foreign 0 → Operation c s r
+pub op-foreign : (c : Call) (s : Core) (r : Step) → true ≡ foreign s → r ≡ refusal s Foreign 0 → Operation c s r
 unfolding ask step
-op-refused c s r e y = record { answer = rw (y, ← e); core = rw (y, ← e) }
-
-op-foreign : (c : Call) (s : Core) (b : Bool) (r : Step) → b ≡ foreign s → b ≡ true → r ≡ refusal s Foreign 0 → Operation c s r
-op-foreign c s b r e x y = op-refused c s r (sym x ∙ e) y
+op-foreign c s r e y = record { answer = rw (y, ← e); core = rw (y, ← e) }
 
 module _ (s : Core) (b : Bool) (e : b ≡ foreign s) (x : b ≡ false) where
   -- what a state in form answers and hands back
@@ -215,7 +212,7 @@ module _ (s : Core) (j : ℕ) (p : Spot) (q : p ≡ spot s j) (room : length (s 
       by : (b : Bool) → foreign s ≡ b → Missing w ≡ cond b (Missing Foreign) (cond (ltb i (s .count)) (At i) (Missing Unlisted)) → Operation c s r
       by true e z =
           let o : w ≡ Foreign = cc in
-          op-foreign c s (foreign s) r refl e (k ∙ ap (λ u. refusal s u 0) o)
+          op-foreign c s r (sym e) (k ∙ ap (λ u. refusal s u 0) o)
       by false e z = inside e (ltb i (s .count)) refl z
 
   pub release-absent : (w : Refusal) (r : Step) → p ≡ Missing w → r ≡ refusal s w 0 → Operation (release j) s r

@@ -23,7 +23,7 @@ use Rattle.timing.specs.Serving.{noTask, nth}
 use Rattle.timing.proofs.Form.{form-take}
 use Rattle.dispatcher.specs.declared.Core.{Core}
 use Rattle.dispatcher.specs.declared.form.Pass.{Pass}
-use Rattle.dispatcher.specs.Steps.{rank, breaks, begun, passed, endsForeign}
+use Rattle.dispatcher.specs.Steps.{rank, breaks, begun, after, endsForeign}
 use Rattle.dispatcher.specs.State.{tasksOf, foreign}
 use Rattle.dispatcher.proofs.Foreign.{is-foreign, form-foreign}
 use Rattle.dispatcher.proofs.Bits.{bit, bit-most, bit-zero, bit-or, bit-same, bit-other, ones-bit, or-left, or-right}
@@ -56,15 +56,15 @@ pub record Bounded (t : Task) : Type 0 where
 fails-breaks : (last : ℕ) (t : Task) → Fails (breaks last t) ((last < rank t) × ((1 ≤ t .budget) × ((t .budget ≤ t .period) × ((t .age ≤ t .period) × (t .left ≤ t .budget)))))
 fails-breaks last t = neither (fails-le _ _) (neither (fails-lt _ _) (neither (fails-lt _ _) (neither (fails-lt _ _) (fails-lt _ _))))
 
-fails-ends : (p : Pass) (n : ℕ) → Fails (endsForeign p n) ((p .joined ≤ 63) × ((p .last / 64 ≤ 60000) × (n ≤ ones (p .seen))))
+fails-ends : (p : Pass) (n : ℕ) → Fails (endsForeign p n) ((p .numbers ≤ 63) × ((p .last / 64 ≤ 60000) × (n ≤ ones (p .seen))))
 fails-ends p n = neither (fails-lt _ _) (neither (fails-lt _ _) (fails-lt _ _))
 
 -- the test and the step of the pass as the code makes them
 pub breaks-is : (here last : ℕ) (t : Task) → here ≡ rank t → (leb here last || (ltb (t .budget) 1 || (ltb (t .period) (t .budget) || (ltb (t .period) (t .age) || ltb (t .budget) (t .left))))) ≡ breaks last t
 breaks-is here last t e = rw e
 
-pub passed-is : (p : Pass) (t : Task) (here b : ℕ) → here ≡ rank t → b ≡ 2 ^ (t .number % 64) → _≡_ {A = Pass} (record { last = here; joined = bitOr (p .joined) (t .number); seen = bitOr (p .seen) b }) (passed p t)
-passed-is p t here b e f = λ i. record { last = e i; joined = bitOr (p .joined) (t .number); seen = bitOr (p .seen) (f i) }
+pub after-is : (p : Pass) (t : Task) (here b : ℕ) → here ≡ rank t → b ≡ 2 ^ (t .number % 64) → _≡_ {A = Pass} (record { last = here; numbers = bitOr (p .numbers) (t .number); seen = bitOr (p .seen) b }) (after p t)
+after-is p t here b e f = λ i. record { last = e i; numbers = bitOr (p .numbers) (t .number); seen = bitOr (p .seen) (f i) }
 
 -- ranks rise with the priority order of tasks whose numbers are at most 63
 rank-above : (t u : Task) → t .number ≤ 63 → u .number ≤ 63 → rank t < rank u → Above t u
@@ -101,8 +101,8 @@ pub record Passed (old : List Task) (p : Pass) : Type 0 where
   pub rising : EachPair (λ t u. rank t < rank u) old
   pub ranked : Each (λ t. rank t ≤ p .last) old
   pub latest : (p .last ≡ 0) ⊎ ((k : ℕ) × (k < length old) × (rank (nth old k) ≡ p .last))
-  pub above : Each (λ t. t .number ≤ p .joined) old
-  pub below : Each (λ t. t .number < 64) old → p .joined < 64
+  pub above : Each (λ t. t .number ≤ p .numbers) old
+  pub below : Each (λ t. t .number < 64) old → p .numbers < 64
   pub seen : Seen old (p .seen)
 
 pub passed-start : Passed [] begun
@@ -179,7 +179,7 @@ module _ (old : List Task) (t : Task) where
 
   module _ (p : Pass) (s : Passed old p) where
     -- a task that does not break the form
-    pub passed-turn : breaks (p .last) t ≡ false → Passed (old ++ t ∷ []) (passed p t)
+    pub passed-turn : breaks (p .last) t ≡ false → Passed (old ++ t ∷ []) (after p t)
     unfolding Each EachPair
     passed-turn e =
         let h = fails-breaks (p .last) t .holds e in
@@ -188,10 +188,10 @@ module _ (old : List Task) (t : Task) where
           rising = pairs-append (λ u v. rank u < rank v) old (t ∷ []) (s .rising) (tt, tt) (each-of old (λ u k. (omega (arith, h .0, k), tt)) (s .ranked));
           ranked = each-append (λ u. rank u ≤ rank t) old (t ∷ []) (each-of old (λ u k. omega (arith, h .0, k)) (s .ranked)) (omega arith, tt);
           latest = inr (length old, omega (arith, more), ap rank behind);
-          above = each-append (λ u. u .number ≤ bitOr (p .joined) (t .number)) old (t ∷ []) (each-of old (λ u k. omega (arith, k, or-left (p .joined) (t .number))) (s .above)) (or-right (p .joined) (t .number), tt);
+          above = each-append (λ u. u .number ≤ bitOr (p .numbers) (t .number)) old (t ∷ []) (each-of old (λ u k. omega (arith, k, or-left (p .numbers) (t .number))) (s .above)) (or-right (p .numbers) (t .number), tt);
           below = λ k.
               let halves = each-halves (λ u. u .number < 64) old (t ∷ []) k in
-              or-lt 6 (p .joined) (t .number) (s .below (halves .0)) (halves .1 .0);
+              or-lt 6 (p .numbers) (t .number) (s .below (halves .0)) (halves .1 .0);
           seen = seen-turn (p .seen) (s .seen);
         }
 
@@ -244,7 +244,7 @@ module _ (s : Core) (i : ℕ) (p : Pass) (room : length (s .tasks) ≡ 64) (most
   next-task : take (i + 1) (s .tasks) ≡ take i (s .tasks) ++ nth (s .tasks) i ∷ []
   next-task = rw (add-one i) (take-suc (s .tasks) i noTask (omega arith))
 
-  pub pass-turn : (q : Pass) → r ≡ false → q ≡ passed p (nth (s .tasks) i) → Passed (take (i + 1) (s .tasks)) q
+  pub pass-turn : (q : Pass) → r ≡ false → q ≡ after p (nth (s .tasks) i) → Passed (take (i + 1) (s .tasks)) q
   pass-turn q x y = rw (next-task, y) (passed-turn (take i (s .tasks)) (nth (s .tasks) i) p b (sym e ∙ x))
 
   pub pass-breaks : r ≡ true → true ≡ foreign s

@@ -1,4 +1,4 @@
--- The pass of a tick over a state's tasks, which tests its form, gathers the pending marks and makes each task older; and what the tick answers.
+-- The pass of a tick over a state's tasks, which tests its form, sets the pending marks and makes each task older; and what the tick answers.
 -- Assumes nothing.
 use Prim.Native.Nat.{ℕ, _+_, _-_, _≤_, _<_}
 use mathlib.Core.Path.{_≡_, sym, ap, _∙_}
@@ -18,14 +18,14 @@ use Rattle.dispatcher.specs.declared.Answer.the-variants.{Served, Idle}
 use Rattle.dispatcher.specs.declared.form.Pass.{Pass}
 use Rattle.dispatcher.specs.State.{tasksOf, withTasks, foreign}
 use Rattle.dispatcher.specs.Operations.{Operation}
-use Rattle.dispatcher.specs.Steps.{breaks, begun, passed, endsForeign}
+use Rattle.dispatcher.specs.Steps.{breaks, begun, after, endsForeign}
 use Rattle.dispatcher.specs.Words.{mark, marked, marksOf, Marks}
 use Rattle.dispatcher.proofs.Aging.{Aged, aging-start, aging-turn, aging-end, map-at}
 use Rattle.dispatcher.proofs.Pass.{Passed, passed-begun, pass-turn, pass-breaks, pass-end}
 use Rattle.dispatcher.proofs.Gathering.{marks-of, marks-place}
 use Rattle.dispatcher.proofs.Outcomes.{tick-idles, aged-left, tick-serves}
 
--- after i tasks: the first i are older, none of them broke the form, and their marks are gathered
+-- after i tasks: the first i are older, none of them broke the form, and their marks are set
 pub record Ticking (s : Core) (i : ℕ) (next : Core) (marks : List ℕ) (p : Pass) : Type 0 where
   pub aged : Aged s i next
   pub passed : Passed (take i (s .tasks)) p
@@ -45,11 +45,11 @@ module _ (s : Core) (i : ℕ) (next : Core) (marks : List ℕ) (p : Pass) (room 
   pub ticking-breaks : r ≡ true → true ≡ foreign s
   ticking-breaks x = pass-breaks s i p room most h (b .passed) r told x
 
-  pub ticking-turn : (q : Pass) (m : ℕ) (u : Task) → r ≡ false → q ≡ passed p (nth (next .tasks) i) → m ≡ mark (nth (next .tasks) i) → u ≡ older (nth (next .tasks) i) → Ticking s (i + 1) (record { count = next .count; tasks = set (next .tasks) i u }) (set marks i m) q
+  pub ticking-turn : (q : Pass) (m : ℕ) (u : Task) → r ≡ false → q ≡ after p (nth (next .tasks) i) → m ≡ mark (nth (next .tasks) i) → u ≡ older (nth (next .tasks) i) → Ticking s (i + 1) (record { count = next .count; tasks = set (next .tasks) i u }) (set marks i m) q
   unfolding mark pending
   ticking-turn q m u x y z w = record {
     aged = aging-turn s next i u room most h (b .aged) w;
-    passed = pass-turn s i p room most h (b .passed) r told q x (y ∙ ap (passed p) same);
+    passed = pass-turn s i p room most h (b .passed) r told q x (y ∙ ap (after p) same);
     filled = filled-turn (map mark (tasksOf s)) marks i m (simp length-map (omega (arith, many))) (simp length-map (omega (arith, many))) (z ∙ ap mark (same ∙ sym (getD-take (s .count) (s .tasks) i noTask h)) ∙ sym (List·getD-map mark (tasksOf s) i noTask)) (b .filled);
   }
     where
@@ -61,7 +61,8 @@ module _ (s : Core) (i : ℕ) (next : Core) (marks : List ℕ) (p : Pass) (room 
   many : length (tasksOf s) ≡ s .count
   many = length-take-le (s .count) (s .tasks) (omega arith)
 
-  all-marks : marks ≡ marksOf (tasksOf s)
+  -- the array holds the marks of the state's tasks
+  pub all-marks : marks ≡ marksOf (tasksOf s)
   unfolding marksOf
   all-marks = filled-end (map mark (tasksOf s)) marks i (simp length-map (omega (arith, many))) (b .filled)
 

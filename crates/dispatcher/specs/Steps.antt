@@ -36,14 +36,14 @@ breaks last t =
 
 -- the pass after no task, and after one more
 abbrev pub begun : Pass
-begun = record { last = 0; joined = 0; seen = 0 }
+begun = record { last = 0; numbers = 0; seen = 0 }
 
-abbrev pub passed : Pass → Task → Pass
-passed p t = record { last = rank t; joined = bitOr (p .joined) (t .number); seen = bitOr (p .seen) (2 ^ (t .number % 64)) }
+abbrev pub after : Pass → Task → Pass
+after p t = record { last = rank t; numbers = bitOr (p .numbers) (t .number); seen = bitOr (p .seen) (2 ^ (t .number % 64)) }
 
 -- at its end: a number is above 63, the last period above 60,000, or there are fewer numbers than tasks
 abbrev pub endsForeign : Pass → ℕ → Bool
-endsForeign p n = ltb 63 (p .joined) || (ltb 60000 (p .last / 64) || ltb (ones (p .seen)) n)
+endsForeign p n = ltb 63 (p .numbers) || (ltb 60000 (p .last / 64) || ltb (ones (p .seen)) n)
 
 -- the place of the task with a number: 21, then 17, else where it stands
 unfoldable pub spot : Core → ℕ → Spot

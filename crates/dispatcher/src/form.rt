@@ -1,17 +1,17 @@
 // The form of a state, whose breach is 21 Foreign, tested in one pass over its tasks. What can be told at the end is not asked of each task:
-// periods rise, so the last is the longest; numbers joined by their bits show whether one is above 63, and a bit for each whether one
+// periods rise, so the last is the longest; the bitwise or of the numbers shows whether one is above 63, and a bit for each whether one
 // stands twice.
 ghost use mathlib.Core.Path.{_≡_};
 ghost use Prim.Native.Nat.{_%_, _^_};
 ghost use Rattle.dispatcher.specs.State.{foreign};
-ghost use Rattle.dispatcher.specs.Steps.{rank, breaks as breaking, begun as beginning, passed as passing, endsForeign};
+ghost use Rattle.dispatcher.specs.Steps.{rank, breaks as breaking, begun as beginning, after as following, endsForeign};
 use crate::Core;
 use timing::Task;
 
-// What the pass keeps: the rank of the last task, the numbers joined by their bits, and a bit for each number.
+// What the pass keeps: the rank of the last task, the bitwise or of the numbers, and a bit for each number.
 pub(crate) struct Pass {
     pub last: u32,
-    pub joined: u8,
+    pub numbers: u8,
     pub seen: u64,
 }
 
@@ -35,7 +35,7 @@ pub(crate) fn begun() -> Pass
 {
     Pass {
         last: 0,
-        joined: 0,
+        numbers: 0,
         seen: 0,
     }
 }
@@ -49,12 +49,12 @@ pub(crate) fn breaks(pass: Pass, t: Task) -> bool
 }
 
 // The pass after the next task.
-pub(crate) fn passed(pass: Pass, t: Task) -> Pass
-    ensures { λ r. ⌜ r ≡ passing pass t ⌝ }
+pub(crate) fn after(pass: Pass, t: Task) -> Pass
+    ensures { λ r. ⌜ r ≡ following pass t ⌝ }
 {
     Pass {
         last: rank_of(t),
-        joined: pass.joined | t.number,
+        numbers: pass.numbers | t.number,
         seen: pass.seen | bit_of(t.number),
     }
 }
@@ -63,7 +63,7 @@ pub(crate) fn passed(pass: Pass, t: Task) -> Pass
 pub(crate) fn ends_foreign(pass: Pass, count: usize) -> bool
     ensures { λ r. ⌜ r ≡ endsForeign pass count ⌝ }
 {
-    (63 < pass.joined)
+    (63 < pass.numbers)
         | ((60_000 < pass.last / 64) | ((u64::count_ones(pass.seen) as usize) < count))
 }
 
@@ -82,7 +82,7 @@ pub(crate) fn is_foreign(core: Core) -> bool
         if breaks(pass, t) {
             return true;
         }
-        pass = passed(pass, t);
+        pass = after(pass, t);
         i += 1;
     }
     ends_foreign(pass, count)

@@ -315,7 +315,7 @@ impl Core {
             if form::breaks(pass, t) {
                 return refuse(self, Refusal::Foreign, 0);
             }
-            pass = form::passed(pass, t);
+            pass = form::after(pass, t);
             marks[i] = words::mark(t);
             let later = aged(t);
             next.tasks[i] = later;
@@ -332,8 +332,8 @@ impl Core {
             };
         }
         let t = next.tasks[first];
-        let less = with_job(t, t.age, t.left - 1);
-        next.tasks[first] = less;
+        let used = with_job(t, t.age, t.left - 1);
+        next.tasks[first] = used;
         Step {
             answer: Answer::Served(t.number),
             core: next,

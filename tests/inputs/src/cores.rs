@@ -65,7 +65,7 @@ pub fn with_pending(rng: &mut Rng, mut core: Core, pending: u64) -> Core {
     for (place, task) in tasks.iter_mut().enumerate() {
         if pending >> place & 1 == 1 {
             let any = rng.range(1, task.budget as u64) as u16;
-            // a multiple of 256, if there is one
+            // a multiple of 256, unless `any` is below it
             let high = (any & 0xFF00).max(1);
             task.left = rng.pick(&[1, task.budget, any, high]);
         }

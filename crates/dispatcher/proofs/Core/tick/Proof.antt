@@ -3,7 +3,7 @@ use Prim.Native.Nat.{_≤_, _-_}
 use mathlib.Core.Path.{refl}
 use Rattle.dispatcher.proofs.Places.{array-length}
 use Rattle.dispatcher.proofs.Logs.{serves-first}
-use Rattle.dispatcher.proofs.Outcomes.{op-refused}
+use Rattle.dispatcher.proofs.Outcomes.{op-foreign}
 use Rattle.dispatcher.proofs.Pass.{too-many}
 use Rattle.dispatcher.proofs.Ticking.{Ticking, ticking-start, ticking-turn, ticking-breaks, ticking-marks, ticking-foreign, ticking-idles, ticking-left, ticking-serves}
 use Rattle.dispatcher.proofs.Core.tick.Statement.{statement}
@@ -14,7 +14,7 @@ use Rattle.dispatcher.proofs.aged.Reads as aged-reads
 use Rattle.dispatcher.proofs.form.begun.Reads as begun-reads
 use Rattle.dispatcher.proofs.form.breaks.Reads as breaks-reads
 use Rattle.dispatcher.proofs.form.ends_foreign.Reads as ends-foreign-reads
-use Rattle.dispatcher.proofs.form.passed.Reads as passed-reads
+use Rattle.dispatcher.proofs.form.after.Reads as after-reads
 use Rattle.dispatcher.proofs.refuse.Reads as refuse-reads
 use Rattle.dispatcher.proofs.with_job.Reads as with-job-reads
 use Rattle.dispatcher.proofs.words.first_marked.Reads as first-marked-reads
@@ -30,7 +30,7 @@ refuse-requires : tie.Need-refuse-requires Inv-loop μ-loop
 refuse-requires c κs = search needs
 
 returns : tie.Need-returns Inv-loop μ-loop
-returns c = serves-first _ _ (search (op-refused, too-many, needs))
+returns c = serves-first _ _ (search (op-foreign, too-many, needs))
 
 begun-requires : tie.Need-begun-requires Inv-loop μ-loop
 begun-requires c κs = search needs
@@ -51,10 +51,10 @@ refuse-requires-2 : tie.Need-refuse-requires-2 Inv-loop μ-loop
 refuse-requires-2 c κs = search needs
 
 returns-2 : tie.Need-returns-2 Inv-loop μ-loop
-returns-2 c = serves-first _ _ (search (op-refused, ticking-breaks, array-length, needs))
+returns-2 c = serves-first _ _ (search (op-foreign, ticking-breaks, array-length, needs))
 
-passed-requires : tie.Need-passed-requires Inv-loop μ-loop
-passed-requires c κs = search needs
+after-requires : tie.Need-after-requires Inv-loop μ-loop
+after-requires c κs = search needs
 
 mark-requires : tie.Need-mark-requires Inv-loop μ-loop
 mark-requires c κs = search needs
@@ -87,7 +87,7 @@ refuse-requires-3 : tie.Need-refuse-requires-3 Inv-loop μ-loop
 refuse-requires-3 c κs = search needs
 
 returns-3 : tie.Need-returns-3 Inv-loop μ-loop
-returns-3 c = serves-first _ _ (search (op-refused, ticking-foreign, array-length, needs))
+returns-3 c = serves-first _ _ (search (op-foreign, ticking-foreign, array-length, needs))
 
 first-marked-requires : tie.Need-first-marked-requires Inv-loop μ-loop
 first-marked-requires c κs = search (ticking-marks, array-length, needs)
@@ -107,11 +107,11 @@ sub-with-job c = search (ticking-left, array-length, needs)
 with-job-requires : tie.Need-with-job-requires Inv-loop μ-loop
 with-job-requires c κs = search needs
 
-mul-less : tie.Need-mul-less Inv-loop μ-loop
-mul-less c = search needs
+mul-used : tie.Need-mul-used Inv-loop μ-loop
+mul-used c = search needs
 
-element-set-from-less : tie.Need-element-set-from-less Inv-loop μ-loop
-element-set-from-less c = search needs
+element-set-from-used : tie.Need-element-set-from-used Inv-loop μ-loop
+element-set-from-used c = search needs
 
 returns-5 : tie.Need-returns-5 Inv-loop μ-loop
 returns-5 c = serves-first _ _ (search (ticking-serves, array-length, needs))
@@ -131,7 +131,7 @@ tick-spec =
     breaks-requires
     refuse-requires-2
     returns-2
-    passed-requires
+    after-requires
     mark-requires
     array-write-marks
     aged-requires
@@ -149,6 +149,6 @@ tick-spec =
     element-copy-out-t-2
     sub-with-job
     with-job-requires
-    mul-less
-    element-set-from-less
+    mul-used
+    element-set-from-used
     returns-5)

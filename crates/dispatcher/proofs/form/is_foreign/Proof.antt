@@ -10,7 +10,7 @@ use Rattle.dispatcher.proofs.form.is_foreign.Lts as lts
 use Rattle.dispatcher.proofs.form.begun.Reads as begun-reads
 use Rattle.dispatcher.proofs.form.breaks.Reads as breaks-reads
 use Rattle.dispatcher.proofs.form.ends_foreign.Reads as ends-foreign-reads
-use Rattle.dispatcher.proofs.form.passed.Reads as passed-reads
+use Rattle.dispatcher.proofs.form.after.Reads as after-reads
 
 abbrev Inv-loop : tie.InvT-loop
 Inv-loop core count pass₀ i₀ pass i = (i ≤ count) × Passed (take i (core .tasks)) pass
@@ -39,8 +39,8 @@ breaks-requires c κs = search needs
 returns-2 : tie.Need-returns-2 Inv-loop μ-loop
 returns-2 c = search (pass-breaks, array-length, needs)
 
-passed-requires : tie.Need-passed-requires Inv-loop μ-loop
-passed-requires c κs = search needs
+after-requires : tie.Need-after-requires Inv-loop μ-loop
+after-requires c κs = search needs
 
 add-i : tie.Need-add-i Inv-loop μ-loop
 add-i c = search needs
@@ -70,7 +70,7 @@ is-foreign-spec =
     element-copy-out-t
     breaks-requires
     returns-2
-    passed-requires
+    after-requires
     add-i
     loop-less
     loop-again
