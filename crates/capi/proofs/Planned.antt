@@ -12,7 +12,7 @@ use Rattle.sheet.specs.Records.{taskCount}
 use Rattle.jobs.specs.Jobs.{jobCount}
 use Rattle.checker.specs.Verdict as check
 use Rattle.checker.proofs.Acceptance.{accepted-exactly}
-use Rattle.checker.proofs.Views.{views-fit, core-of}
+use Rattle.checker.proofs.Views.{views-fit}
 use Rattle.planner.specs.declared.Planned.{Planned}
 use Rattle.planner.specs.declared.Planned.the-variants as plans
 use Rattle.planner.specs.Plan as plan
@@ -20,7 +20,7 @@ use Rattle.planner.proofs.Written.{written-tasks, written-period, written-budge
 use Rattle.timing.specs.Calls.{Call, accepted}
 use Rattle.dispatcher.specs.Starts.{sheetAnswer, sheetState}
 use Rattle.dispatcher.specs.OnTime.{Kept}
-use Rattle.dispatcher.proofs.Starts.{core-kept}
+use Rattle.dispatcher.proofs.Starts.{sheet-kept}
 use Rattle.capi.specs.Planned.{RunsOnTime}
 use Rattle.capi.proofs.Answers.{positive}
 
@@ -31,8 +31,7 @@ module _ (s : List ℕ) (n c k : ℕ) (e : check.verdict s ≡ check.accepted n 
   core-starts = rw (e, lt-ltb k c h)
 
   core-on-time : (cs : List Call) → Kept s k (sheetState (check.verdict s) s k) cs
-  unfolding sheetState
-  core-on-time cs = rw (e, lt-ltb k c h) (core-kept s n c k (core-of s n c k e h) cs)
+  core-on-time cs = sheet-kept s k core-starts cs
 
 -- the promise of a plan that was written
 pub runs-on-time : (v : Planned) (l out new : List ℕ) (limit start n c size : ℕ) → v ≡ plans.Written n c size → plan.outcomeOf v ≡ plan.planOutcome l limit start (length out) → new ≡ plan.planOutput l limit start out → plan.Accepting v new → RunsOnTime l (take size new) c

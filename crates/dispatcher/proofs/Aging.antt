@@ -3,9 +3,9 @@
 use Prim.Native.Nat.{ℕ, suc, _+_, _≤_, _<_, min, zero}
 use mathlib.Core.Path.{_≡_, refl, ap, _∙_}
 use mathlib.Core.List.{List, [], _∷_, _++_, map}
-use native.Mathlib.Numerals.{add-one}
 use native.Mathlib.Omega.{arith}
 use lib.ListN.{length, getD, take, drop, set, length-set}
+use Rattle.fit.proofs.Overwriting.{over, self-turn}
 use Rattle.timing.specs.declared.Task.{Task}
 use Rattle.timing.specs.Tasks.{withJob, older}
 use Rattle.timing.specs.Serving.{noTask}
@@ -33,29 +33,17 @@ state-is s n l e f = λ i. record { count = e i; tasks = f i }
 pub record Aged (old : Core) (i : ℕ) (new : Core) : Type 0 where
   pub count : new .count ≡ old .count
   pub size : length (new .tasks) ≡ 64
-  pub front : new .tasks ≡ map older (take i (old .tasks)) ++ drop i (old .tasks)
+  pub front : new .tasks ≡ over older (old .tasks) (old .tasks) i
 
 pub aging-start : (s : Core) → length (s .tasks) ≡ 64 → Aged s 0 s
 aging-start s h = record { count = refl; size = h; front = refl }
-
--- one place more of a list is changed
-map-more : (f : Task → Task) (l : List Task) (i : ℕ) → i < length l → set (map f (take i l) ++ drop i l) i (f (getD l i noTask)) ≡ map f (take (suc i) l) ++ drop (suc i) l
-map-more f [] i h = absurd (omega arith)
-map-more f (t ∷ l) zero h = refl
-map-more f (t ∷ l) (suc i) h = ap (λ x. f t ∷ x) (map-more f l i (omega arith))
-
-pub map-at : (f : Task → Task) (l : List Task) (i : ℕ) → getD (map f (take i l) ++ drop i l) i noTask ≡ getD l i noTask
-map-at f [] zero = refl
-map-at f [] (suc i) = refl
-map-at f (t ∷ l) zero = refl
-map-at f (t ∷ l) (suc i) = map-at f l i
 
 pub aging-turn : (old new : Core) (i : ℕ) (r : Task) → length (old .tasks) ≡ 64 → old .count ≤ 64 → i < old .count → Aged old i new → r ≡ older (getD (new .tasks) i noTask) → Aged old (i + 1) (record { count = new .count; tasks = set (new .tasks) i r })
 aging-turn old new i r l m h a e = record {
   count = a .count;
   size = length-set (new .tasks) i r ∙ a .size;
   front =
-      rw (e, a .front, map-at older (old .tasks) i, add-one i) (map-more older (old .tasks) i (omega arith));
+      rw (e, a .front) (self-turn older (old .tasks) i noTask (omega arith));
 }
 
 pub aging-end : (old new : Core) (i : ℕ) → i ≤ old .count → old .count ≤ i → Aged old i new → new ≡ withTasks old (map older (tasksOf old))

@@ -85,10 +85,67 @@ one-changed s i t h =
 pub accepts : (s v : Core) (i : ℕ) (t : Task) → v ≡ changed s i t → record { answer = Accepted; core = v } ≡ acceptance s i t
 accepts s v i t h = ap (λ (x : Core). record { answer = Accepted; core = x }) h
 
+-- what a tick gives where the form is not looked at: what the tasks answer, and the state with the next of them
+pub record Untested (s : Core) (r : Step) : Type 0 where
+  pub answer : answerOf (r .answer) ≡ answer tick (tasksOf s)
+  pub core : r .core ≡ withTasks s (next tick (tasksOf s))
+
 -- 21
 pub op-foreign : (c : Call) (s : Core) (r : Step) → true ≡ foreign s → r ≡ refusal s Foreign 0 → Operation c s r
 unfolding ask step
 op-foreign c s r e y = record { answer = rw (y, ← e); core = rw (y, ← e) }
+
+-- a state of at most 64 tasks, whatever its fields hold
+module _ (s : Core) (most : s .count ≤ 64) (room : length (s .tasks) ≡ 64) where
+  many : length (tasksOf s) ≡ s .count
+  many = length-take-le (s .count) (s .tasks) (omega arith)
+
+  module _ (q : Task → Bool) (i : ℕ) (at : i ≡ placeOf q (tasksOf s)) where
+    hit : i < s .count → Found q (tasksOf s) i
+    hit h = rw at (found q (tasksOf s) (omega (arith, many)))
+
+    miss : s .count ≤ i → Lacking q (tasksOf s)
+    miss h = missing q (tasksOf s) (omega (arith, many))
+
+    task-at : i < s .count → nth (tasksOf s) i ≡ nth (s .tasks) i
+    task-at h = getD-take (s .count) (s .tasks) i noTask h
+
+  module _ (i : ℕ) (at : i ≡ placeOf pending (tasksOf s)) where
+    -- an idle tick
+    pub tick-idles : (r : Core) → s .count ≤ i → r ≡ withTasks s (map older (tasksOf s)) → Untested s (record { answer = Idle; core = r })
+    unfolding answer next
+    tick-idles r h k =
+        let m = miss pending i at h in
+        record { answer = sym (m .answers tickAnswer idle); core = k ∙ sym (ap (λ l. withTasks s (map older l)) (m .changes used)) }
+
+    module _ (h : i < s .count) where
+      pending-left : 1 ≤ nth (s .tasks) i .left
+      unfolding pending
+      pending-left = ltb-true 0 _ (ap pending (sym (task-at pending i at h)) ∙ hit pending i at h .passes)
+
+      -- a tick that goes to the first pending task, once every task is older
+      module _ (v : Core) (k : v ≡ withTasks s (map older (tasksOf s))) where
+        abbrev old : Task
+        old = nth (tasksOf s) i
+
+        aged-task : nth (v .tasks) i ≡ older old
+        unfolding withTasks older withJob
+        aged-task = ap (λ w. nth (w .tasks) i) k ∙ List·getD-append (map older (tasksOf s)) (drop (s .count) (s .tasks)) noTask i (simp length-map (omega (arith, many))) ∙ List·getD-map older (tasksOf s) i noTask
+
+        pub aged-left : 1 ≤ nth (v .tasks) i .left
+        unfolding older withJob
+        aged-left = rw (aged-task, task-at pending i at h) pending-left
+
+        pub tick-serves : (u : Task) → u ≡ withJob (nth (v .tasks) i) (nth (v .tasks) i .age) (nth (v .tasks) i .left - 1) → Untested s (record { answer = Served (nth (v .tasks) i .number); core = record { count = v .count; tasks = set (v .tasks) i u } })
+        unfolding answer next used older withJob withTasks
+        tick-serves u e =
+            let m = hit pending i at h in
+            let o : u ≡ used (older old) = e ∙ ap used aged-task in
+            let front : set (v .tasks) i u ≡ map older (set (tasksOf s) i (used old)) ++ drop (s .count) (s .tasks) = ap (λ w. set (w .tasks) i u) k ∙ set-append-left (map older (tasksOf s)) (drop (s .count) (s .tasks)) i u (simp length-map (omega (arith, many))) ∙ ap (λ l. l ++ drop (s .count) (s .tasks)) (ap (set (map older (tasksOf s)) i) o ∙ sym (map-set older (tasksOf s) i (used old))) in
+            record {
+              answer = ap (λ t. served (t .number)) aged-task ∙ sym (m .answers tickAnswer idle);
+              core = state-is _ (s .count) _ (ap (λ w. w .count) k) front ∙ sym (ap (λ l. withTasks s (map older l)) (m .changes used));
+            }
 
 module _ (s : Core) (b : Bool) (e : b ≡ foreign s) (x : b ≡ false) where
   -- what a state in form answers and hands back
@@ -110,25 +167,17 @@ module _ (s : Core) (b : Bool) (e : b ≡ foreign s) (x : b ≡ false) where
   offset-fits : {i : ℕ} → i < s .count → Fits w64 (i * 10)
   offset-fits h = omega (arith, count-max)
 
+  -- what the tasks of a state in form give is what a tick of it gives
+  pub tick-in-form : (r : Step) → Untested s r → Operation tick s r
+  tick-in-form r u = record { answer = u .answer ∙ sym (native-ask tick); core = u .core ∙ sym (native-step tick) }
+
   module _ (room : length (s .tasks) ≡ 64) where
-    many : length (tasksOf s) ≡ s .count
-    many = length-take-le (s .count) (s .tasks) (omega (arith, count-max))
-
     module _ (q : Task → Bool) (i : ℕ) (at : i ≡ placeOf q (tasksOf s)) where
-      hit : i < s .count → Found q (tasksOf s) i
-      hit h = rw at (found q (tasksOf s) (omega (arith, many)))
-
-      miss : s .count ≤ i → Lacking q (tasksOf s)
-      miss h = missing q (tasksOf s) (omega (arith, many))
-
-      task-at : i < s .count → nth (tasksOf s) i ≡ nth (s .tasks) i
-      task-at h = getD-take (s .count) (s .tasks) i noTask h
-
       -- a call that changes the first task which passes
       operation : (c : Call) (f : Task → Answer) (d : Answer) (g : Task → Task) (r : Step) → answer c (tasksOf s) ≡ ofFirst q f d (tasksOf s) → next c (tasksOf s) ≡ modify q g (tasksOf s) → i < s .count → answerOf (r .answer) ≡ f (nth (s .tasks) i) → r .core ≡ record { count = s .count; tasks = set (s .tasks) i (g (nth (s .tasks) i)) } → Operation c s r
       operation c f d g r p n h y z = record {
-        answer = y ∙ sym (native-ask c ∙ p ∙ hit h .answers f d ∙ ap f (task-at h));
-        core = z ∙ sym (native-step c ∙ ap (withTasks s) (n ∙ hit h .changes g ∙ ap (λ t. set (tasksOf s) i (g t)) (task-at h)) ∙ one-changed s i _ h);
+        answer = y ∙ sym (native-ask c ∙ p ∙ hit s count-max room q i at h .answers f d ∙ ap f (task-at s count-max room q i at h));
+        core = z ∙ sym (native-step c ∙ ap (withTasks s) (n ∙ hit s count-max room q i at h .changes g ∙ ap (λ t. set (tasksOf s) i (g t)) (task-at s count-max room q i at h)) ∙ one-changed s i _ h);
       }
 
       -- a refusal of that task, which stays as it is
@@ -138,45 +187,8 @@ module _ (s : Core) (b : Bool) (e : b ≡ foreign s) (x : b ≡ false) where
       -- 17: no task passes
       unlisted : (c : Call) (f : Task → Answer) (g : Task → Task) (r : Step) → answer c (tasksOf s) ≡ ofFirst q f (refused 17 0) (tasksOf s) → next c (tasksOf s) ≡ modify q g (tasksOf s) → s .count ≤ i → r ≡ refusal s Unlisted 0 → Operation c s r
       unlisted c f g r p n h k =
-          let m = miss h in
+          let m = miss s count-max room q i at h in
           record { answer = ap (λ u. answerOf (u .answer)) k ∙ sym (native-ask c ∙ p ∙ m .answers f (refused 17 0)); core = ap (λ u. u .core) k ∙ sym (native-step c ∙ ap (withTasks s) (n ∙ m .changes g) ∙ same-tasks s) }
-
-    module _ (i : ℕ) (at : i ≡ placeOf pending (tasksOf s)) where
-      -- an idle tick
-      pub tick-idles : (r : Core) → s .count ≤ i → r ≡ withTasks s (map older (tasksOf s)) → Operation tick s (record { answer = Idle; core = r })
-      unfolding answer next
-      tick-idles r h k =
-          let m = miss pending i at h in
-          record { answer = sym (native-ask tick ∙ m .answers tickAnswer idle); core = k ∙ sym (native-step tick ∙ ap (λ l. withTasks s (map older l)) (m .changes used)) }
-
-      module _ (h : i < s .count) where
-        pending-left : 1 ≤ nth (s .tasks) i .left
-        unfolding pending
-        pending-left = ltb-true 0 _ (ap pending (sym (task-at pending i at h)) ∙ hit pending i at h .passes)
-
-        -- a tick that goes to the first pending task, once every task is older
-        module _ (v : Core) (k : v ≡ withTasks s (map older (tasksOf s))) where
-          abbrev old : Task
-          old = nth (tasksOf s) i
-
-          aged-task : nth (v .tasks) i ≡ older old
-          unfolding withTasks older withJob
-          aged-task = ap (λ w. nth (w .tasks) i) k ∙ List·getD-append (map older (tasksOf s)) (drop (s .count) (s .tasks)) noTask i (simp length-map (omega (arith, many))) ∙ List·getD-map older (tasksOf s) i noTask
-
-          pub aged-left : 1 ≤ nth (v .tasks) i .left
-          unfolding older withJob
-          aged-left = rw (aged-task, task-at pending i at h) pending-left
-
-          pub tick-serves : (u : Task) → u ≡ withJob (nth (v .tasks) i) (nth (v .tasks) i .age) (nth (v .tasks) i .left - 1) → Operation tick s (record { answer = Served (nth (v .tasks) i .number); core = record { count = v .count; tasks = set (v .tasks) i u } })
-          unfolding answer next used older withJob withTasks
-          tick-serves u e =
-              let m = hit pending i at h in
-              let o : u ≡ used (older old) = e ∙ ap used aged-task in
-              let front : set (v .tasks) i u ≡ map older (set (tasksOf s) i (used old)) ++ drop (s .count) (s .tasks) = ap (λ w. set (w .tasks) i u) k ∙ set-append-left (map older (tasksOf s)) (drop (s .count) (s .tasks)) i u (simp length-map (omega (arith, many))) ∙ ap (λ l. l ++ drop (s .count) (s .tasks)) (ap (set (map older (tasksOf s)) i) o ∙ sym (map-set older (tasksOf s) i (used old))) in
-              record {
-                answer = ap (λ t. served (t .number)) aged-task ∙ sym (native-ask tick ∙ m .answers tickAnswer idle);
-                core = state-is _ (s .count) _ (ap (λ w. w .count) k) front ∙ sym (native-step tick ∙ ap (λ l. withTasks s (map older l)) (m .changes used));
-              }
 
 -- the place of a named task, as it is looked for
 module _ (s : Core) (j : ℕ) (b : Bool) (e : b ≡ foreign s) where

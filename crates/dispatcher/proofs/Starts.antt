@@ -206,6 +206,12 @@ sheet-fresh s k a =
     let h = started s k a in
     rw (h .state) (core-fresh s (h .tasks) (h .cores) k (h .core))
 
+-- and from it every list of calls is on time
+pub sheet-kept : (s : List ℕ) (k : ℕ) → sheetAnswer (verdict s) k ≡ accepted → (cs : List Call) → Kept s k (sheetState (verdict s) s k) cs
+sheet-kept s k a cs =
+    let h = started s k a in
+    rw (h .state) (core-kept s (h .tasks) (h .cores) k (h .core) cs)
+
 -- after every list of calls, each release of a task of the core is answered by the ticks since the last accepted one
 pub release-by-history : (s : List ℕ) (k : ℕ) → sheetAnswer (verdict s) k ≡ accepted → (cs : List Call) → Each (λ j. ByHistory (figures s .period j) j (log ask step (sheetState (verdict s) s k) cs) (ask (release j) (run step (sheetState (verdict s) s k) cs))) (orderOn (figures s) k)
 release-by-history s k a cs =

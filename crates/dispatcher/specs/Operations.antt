@@ -2,9 +2,10 @@
 use Prim.Native.Nat.{ℕ}
 use mathlib.Core.Path.{_≡_}
 use mathlib.Core.Bool.{cond}
+use lib.Dec.{ltb}
 use Rattle.fit.specs.Lists.{Each}
 use Rattle.sheet.specs.Refusals.{numberOf}
-use Rattle.timing.specs.Calls.{Call, Answer, accepted, served, idle, refused, answer, next}
+use Rattle.timing.specs.Calls.{Call, tick, Answer, accepted, served, idle, refused, answer, next}
 use Rattle.timing.specs.Serving.{nth, Foremost}
 use Rattle.dispatcher.specs.declared.Core.{Core}
 use Rattle.dispatcher.specs.declared.Step.{Step}
@@ -40,3 +41,15 @@ pub record Unaltered (s : Core) (r : Step) : Type 0 where
 pub record ServesFirst (s : Core) (r : Step) : Type 0 where
   pub first : (j : ℕ) → answerOf (r .answer) ≡ served j → (i : ℕ) × (nth (tasksOf s) i .number ≡ j) × Foremost (tasksOf s) i
   pub idle : answerOf (r .answer) ≡ idle → Each (λ t. t .left ≡ 0) (tasksOf s)
+
+-- The tick for a caller that has looked whether the state is foreign: only the count is looked at, which must not be above 64; whatever
+-- the fields hold, its answer and the state that it hands back are those of the state's tasks.
+unfoldable pub askTested : Core → Answer
+askTested s = cond (ltb 64 (s .count)) (refused 21 0) (answer tick (tasksOf s))
+
+unfoldable pub stepTested : Core → Core
+stepTested s = cond (ltb 64 (s .count)) s (withTasks s (next tick (tasksOf s)))
+
+pub record TestedTick (s : Core) (r : Step) : Type 0 where
+  pub answer : answerOf (r .answer) ≡ askTested s
+  pub core : r .core ≡ stepTested s

@@ -3,9 +3,7 @@
 // stands twice.
 ghost use mathlib.Core.Path.{_≡_};
 ghost use Prim.Native.Nat.{_%_, _^_};
-ghost use Rattle.dispatcher.specs.State.{foreign};
 ghost use Rattle.dispatcher.specs.Steps.{rank, breaks as breaking, begun as beginning, after as following, endsForeign};
-use crate::Core;
 use timing::Task;
 
 // What the pass keeps: the rank of the last task, the bitwise or of the numbers, and a bit for each number.
@@ -65,25 +63,4 @@ pub(crate) fn ends_foreign(pass: Pass, count: usize) -> bool
 {
     (63 < pass.numbers)
         | ((60_000 < pass.last / 64) | ((u64::count_ones(pass.seen) as usize) < count))
-}
-
-// Whether a state breaks its own form (21).
-pub(crate) fn is_foreign(core: Core) -> bool
-    ensures { λ r. ⌜ r ≡ foreign core ⌝ }
-{
-    let count = core.count;
-    if 64 < count {
-        return true;
-    }
-    let mut pass = begun();
-    let mut i = 0;
-    while i < count {
-        let t = core.tasks[i];
-        if breaks(pass, t) {
-            return true;
-        }
-        pass = after(pass, t);
-        i += 1;
-    }
-    ends_foreign(pass, count)
 }

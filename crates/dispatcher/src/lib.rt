@@ -3,6 +3,7 @@ mod form;
 mod words;
 
 ghost use mathlib.Core.Path.{_≡_};
+ghost use mathlib.Core.Bool.{false};
 ghost use Prim.Native.Nat.{_+_, _*_, _<_, _≤_};
 ghost use mathlib.Core.List.{[]};
 ghost use lib.ListN.{length, take};
@@ -16,8 +17,8 @@ ghost use Rattle.jobs.specs.Jobs.{jobPeriod, jobBudget};
 ghost use Rattle.fit.specs.Lists.{placeOf};
 ghost use Rattle.timing.specs.Tasks.{named, withJob, older};
 ghost use Rattle.timing.specs.Calls.{release, finish, tick};
-ghost use Rattle.dispatcher.specs.State.{tasksOf};
-ghost use Rattle.dispatcher.specs.Operations.{Operation, Unaltered, ServesFirst};
+ghost use Rattle.dispatcher.specs.State.{tasksOf, foreign};
+ghost use Rattle.dispatcher.specs.Operations.{Operation, Unaltered, ServesFirst, TestedTick};
 ghost use Rattle.dispatcher.specs.Starts.{freshTask, freshTasks, stateOf, SheetStart, ListStart};
 ghost use Rattle.dispatcher.specs.OnTime.{Timely};
 ghost use Rattle.dispatcher.specs.Steps.{freshBy, spot, changed, refusal, acceptance};
@@ -76,7 +77,7 @@ fn first_named(core: Core, number: u64) -> usize
 fn spot_of(core: Core, number: u64) -> Spot
     ensures { λ r. ⌜ r ≡ spot core number ⌝ }
 {
-    if form::is_foreign(core) {
+    if core.is_foreign() {
         return Spot::Refused(Refusal::Foreign);
     }
     let at = first_named(core, number);
@@ -256,6 +257,27 @@ pub fn start_list(list: &[u8]) -> Step
 }
 
 impl Core {
+    // Whether the state breaks its own form (21).
+    pub fn is_foreign(self) -> bool
+        ensures { λ r. ⌜ r ≡ foreign self ⌝ }
+    {
+        let count = self.count;
+        if 64 < count {
+            return true;
+        }
+        let mut pass = form::begun();
+        let mut i = 0;
+        while i < count {
+            let t = self.tasks[i];
+            if form::breaks(pass, t) {
+                return true;
+            }
+            pass = form::after(pass, t);
+            i += 1;
+        }
+        form::ends_foreign(pass, count)
+    }
+
     // A job of the task is released: 21, 17, 18, 19, else age 0 and ticks left e.
     pub fn release(self, number: u64) -> Step
         ensures { λ r. ⌜ Operation (release number) self r ⌝ }
@@ -323,6 +345,40 @@ impl Core {
         }
         if form::ends_foreign(pass, count) {
             return refuse(self, Refusal::Foreign, 0);
+        }
+        let first = words::first_marked(&marks, count);
+        if count <= first {
+            return Step {
+                answer: Answer::Idle,
+                core: next,
+            };
+        }
+        let t = next.tasks[first];
+        let used = with_job(t, t.age, t.left - 1);
+        next.tasks[first] = used;
+        Step {
+            answer: Answer::Served(t.number),
+            core: next,
+        }
+    }
+    // A tick for a caller that has tested the form: of the form it looks at the count alone.
+    pub fn tick_tested(self) -> Step
+        ensures { λ r. ⌜ TestedTick self r ⌝ }
+        ensures in_form { λ r. ⌜ (foreign self ≡ false → Operation tick self r) ⌝ }
+    {
+        let count = self.count;
+        if 64 < count {
+            return refuse(self, Refusal::Foreign, 0);
+        }
+        let mut next = self;
+        let mut marks = [0; 64];
+        let mut i = 0;
+        while i < count {
+            let t = next.tasks[i];
+            marks[i] = words::mark(t);
+            let later = aged(t);
+            next.tasks[i] = later;
+            i += 1;
         }
         let first = words::first_marked(&marks, count);
         if count <= first {

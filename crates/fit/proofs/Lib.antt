@@ -13,5 +13,6 @@ pub mod Presorted
 pub mod Rising
 pub mod Laying
 pub mod Filling
+pub mod Overwriting
 pub mod Firsts
 pub mod Periodic

@@ -1,7 +1,7 @@
 -- The refusals (docs/SHEET.md, section 9).
 use Prim.Native.Nat.{ℕ}
 use Rattle.sheet.specs.declared.Refusal.{Refusal}
-use Rattle.sheet.specs.declared.Refusal.the-variants.{Stub, Mark, Version, Count, Length, Spare, Period, Budget, Core, Bare, Factor, Stretch, Chain, Overload, NoFit, Tight, Unlisted, Early, Late, Quiet, Foreign, Start, Order}
+use Rattle.sheet.specs.declared.Refusal.the-variants.{Stub, Mark, Version, Count, Length, Spare, Period, Budget, Core, Bare, Factor, Stretch, Chain, Overload, NoFit, Tight, Unlisted, Early, Late, Quiet, Foreign, Start, Order, Row}
 
 -- the number of each refusal, by its word
 abbrev pub numberOf : Refusal → ℕ
@@ -28,3 +28,4 @@ numberOf Quiet = 20
 numberOf Foreign = 21
 numberOf Start = 22
 numberOf Order = 23
+numberOf Row = 24

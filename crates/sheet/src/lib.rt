@@ -34,6 +34,7 @@ pub enum Refusal {
     Foreign,
     Start,
     Order,
+    Row,
 }
 
 // The first place at which something is found, if any.
@@ -75,6 +76,7 @@ pub fn number(word: Refusal) -> u8
         Refusal::Foreign => 21,
         Refusal::Start => 22,
         Refusal::Order => 23,
+        Refusal::Row => 24,
     }
 }
 

@@ -5,7 +5,7 @@ use Rattle.dispatcher.proofs.spot_of.Tie as tie
 use Rattle.dispatcher.proofs.spot_of.Reads as reads
 use Rattle.dispatcher.proofs.spot_of.Lts as lts
 use Rattle.dispatcher.proofs.first_named.Reads as first-named-reads
-use Rattle.dispatcher.proofs.form.is_foreign.Reads as is-foreign-reads
+use Rattle.dispatcher.proofs.Core.is_foreign.Reads as is-foreign-reads
 
 is-foreign-requires : tie.Need-is-foreign-requires
 is-foreign-requires c κs = search needs

@@ -3,20 +3,20 @@ use Prim.Native.Nat.{_≤_, _-_}
 use lib.ListN.{take}
 use Rattle.dispatcher.proofs.Places.{array-length}
 use Rattle.dispatcher.proofs.Pass.{Passed, too-many, passed-begun, pass-turn, pass-breaks, pass-end}
-use Rattle.dispatcher.proofs.form.is_foreign.Statement.{statement}
-use Rattle.dispatcher.proofs.form.is_foreign.Tie as tie
-use Rattle.dispatcher.proofs.form.is_foreign.Reads as reads
-use Rattle.dispatcher.proofs.form.is_foreign.Lts as lts
+use Rattle.dispatcher.proofs.Core.is_foreign.Statement.{statement}
+use Rattle.dispatcher.proofs.Core.is_foreign.Tie as tie
+use Rattle.dispatcher.proofs.Core.is_foreign.Reads as reads
+use Rattle.dispatcher.proofs.Core.is_foreign.Lts as lts
 use Rattle.dispatcher.proofs.form.begun.Reads as begun-reads
 use Rattle.dispatcher.proofs.form.breaks.Reads as breaks-reads
 use Rattle.dispatcher.proofs.form.ends_foreign.Reads as ends-foreign-reads
 use Rattle.dispatcher.proofs.form.after.Reads as after-reads
 
 abbrev Inv-loop : tie.InvT-loop
-Inv-loop core count pass₀ i₀ pass i = (i ≤ count) × Passed (take i (core .tasks)) pass
+Inv-loop self count pass₀ i₀ pass i = (i ≤ count) × Passed (take i (self .tasks)) pass
 
 abbrev μ-loop : tie.MeasureT-loop
-μ-loop core count pass₀ i₀ pass i = count - i
+μ-loop self count pass₀ i₀ pass i = count - i
 
 returns : tie.Need-returns Inv-loop μ-loop
 returns c = search (too-many, needs)

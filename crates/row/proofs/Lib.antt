@@ -1,0 +1,5 @@
+pub mod Walks
+pub mod Lending
+pub mod Places
+pub mod Runs
+pub mod Outcomes

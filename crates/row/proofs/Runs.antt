@@ -1,0 +1,130 @@
+-- A row over whole lists of calls: each core has the log of its own calls, and one that was started from a sheet is on time.
+-- Assumes nothing.
+use Prim.Native.Nat.{ℕ, zero, suc, _≤_, _<_}
+use mathlib.Core.Path.{_≡_, refl, sym, ap, subst, _∙_}
+use mathlib.Core.Bool.{Bool, true, false, not, cond, true≢false}
+use mathlib.Core.List.{List, [], _∷_, _++_, map}
+use native.Mathlib.Omega.{arith}
+use borrow.Author.Tests.{ltb-false, eqb-true, eqb-false, ne-eqb}
+use lib.Dec.{ltb, eqb}
+use lib.ListN.{length, getD, set, drop, length-map, length-set}
+use lib.Seq.{getD-set-same, getD-set-other}
+use Rattle.fit.specs.Lists.{Each, placeOf}
+use Rattle.fit.proofs.Finds.{place-before}
+use Rattle.fit.proofs.Lists.{each-of}
+use Rattle.checker.specs.Verdict.{verdict}
+use Rattle.timing.specs.declared.Task.{Task}
+use Rattle.timing.specs.Calls.{Call, tick, Answer, accepted, served, idle, tickAnswer, ofFirst, answer, entry, log, run}
+use Rattle.timing.specs.Tasks.{pending}
+use Rattle.timing.proofs.Runs.{log-append, run-both}
+use Rattle.dispatcher.specs.declared.Core.{Core}
+use Rattle.dispatcher.specs.State.{tasksOf, foreign}
+use Rattle.dispatcher.specs.Operations.{ask, step}
+use Rattle.dispatcher.specs.Starts.{stateOf, sheetAnswer, sheetState}
+use Rattle.dispatcher.specs.OnTime.{Kept}
+use Rattle.dispatcher.proofs.Foreign.{foreign-form}
+use Rattle.dispatcher.proofs.Logs.{ask-form}
+use Rattle.dispatcher.proofs.Starts.{sheet-kept}
+use Rattle.row.specs.Row.{answerByte, Outcome, ticked, turned, rowOutcome, rowStates, written, rowBytes}
+use Rattle.row.specs.OnTime.{coreAt, RowCall, beat, alone, lay, rowNext, rowRun, readByte, heardTick, heard, rowLog, tickCalls, ownCalls, rowCalls, staysAt, AsAlone, RowKept, RowRuns}
+
+-- element k of a list that another follows, each of which is f of another list's
+map-at : {A B : Type 0} (f : A → B) (l : List A) (r : List B) (k : ℕ) (d : A) (e : B) → k < length l → getD (map f l ++ r) k e ≡ f (getD l k d)
+map-at f [] r k d e h = absurd (omega arith)
+map-at f (x ∷ l) r zero d e h = refl
+map-at f (x ∷ l) r (suc k) d e h = map-at f l r k d e (omega arith)
+
+only-map-at : {A : Type 0} (f : A → A) (l : List A) (k : ℕ) (d : A) → k < length l → getD (map f l) k d ≡ f (getD l k d)
+only-map-at f [] k d h = absurd (omega arith)
+only-map-at f (x ∷ l) zero d h = refl
+only-map-at f (x ∷ l) (suc k) d h = only-map-at f l k d (omega arith)
+
+-- An answer byte tells the answer of tasks whose numbers are at most 63.
+tells : (s : List Task) → Each (λ t. t .number ≤ 63) s → readByte (answerByte (ofFirst pending tickAnswer idle s)) ≡ ofFirst pending tickAnswer idle s
+unfolding ofFirst Each readByte answerByte
+tells [] h = refl
+tells (t ∷ s) h = go (pending t) (tells s (h .1))
+  where
+    small : readByte (t .number) ≡ served (t .number)
+    small = rw (ne-eqb (t .number) 255 (λ e. omega (arith, h .0, e)))
+
+    go : (b : Bool) → readByte (answerByte (ofFirst pending tickAnswer idle s)) ≡ ofFirst pending tickAnswer idle s → readByte (answerByte (cond b (tickAnswer t) (ofFirst pending tickAnswer idle s))) ≡ cond b (tickAnswer t) (ofFirst pending tickAnswer idle s)
+    go true r = small
+    go false r = r
+
+pub byte-tells : (s : Core) → foreign s ≡ false → readByte (answerByte (ask tick s)) ≡ ask tick s
+unfolding answer
+byte-tells s e =
+    let f = foreign-form s e in
+    rw (ask-form tick s f) (tells (tasksOf s) (each-of (tasksOf s) (λ t h. h .number-max) (f .form .sound)))
+
+-- no state of a row that was ticked is foreign
+pub ticked-form : (row : List Core) (n k : ℕ) → rowOutcome row n ≡ ticked → k < length row → foreign (coreAt row k) ≡ false
+unfolding rowOutcome
+ticked-form row n k e h = go (ltb n (length row)) (ltb (placeOf foreign row) (length row)) refl e
+  where
+    go : (b c : Bool) → ltb (placeOf foreign row) (length row) ≡ c → cond b (turned 24 0) (cond c (turned 21 (placeOf foreign row)) ticked) ≡ ticked → foreign (coreAt row k) ≡ false
+    go true c z x = absurd (let w : _≡_ {A = ℕ} 0 1 = cc in omega arith)
+    go false true z x = absurd (let w : _≡_ {A = ℕ} 0 1 = cc in omega arith)
+    go false false z x = place-before (stateOf []) foreign row k (omega (arith, h, ltb-false (placeOf foreign row) (length row) z))
+
+-- A tick of a row: the state and the answer byte at position k are those of a tick of that state by itself.
+pub beat-state : (row : List Core) (k : ℕ) → k < length row → coreAt (rowStates ticked row) k ≡ step tick (coreAt row k)
+unfolding rowStates
+beat-state row k h = only-map-at (step tick) row k (stateOf []) h
+
+pub beat-byte : (row : List Core) (bytes : List ℕ) (k : ℕ) → k < length row → getD (rowBytes ticked row bytes) k 0 ≡ answerByte (ask tick (coreAt row k))
+unfolding rowBytes written
+beat-byte row bytes k h = map-at (λ s. answerByte (ask tick s)) row (drop (length row) bytes) k (stateOf []) 0 h
+
+-- what one call on the row is for the core at position k
+record Once (row : List Core) (k : ℕ) (x : RowCall) : Type 0 where
+  pub same : length (rowNext x row) ≡ length row
+  pub log : heard k x row ≡ log ask step (coreAt row k) (ownCalls k x row)
+  pub state : coreAt (rowNext x row) k ≡ run step (coreAt row k) (ownCalls k x row)
+
+once : (row : List Core) (k : ℕ) → k < length row → (x : RowCall) → staysAt k x ≡ true → Once row k x
+unfolding rowNext heard ownCalls staysAt rowStates heardTick tickCalls log run
+once row k h (beat bytes) y = go (rowOutcome row (length bytes)) refl
+  where
+    go : (o : Outcome) → rowOutcome row (length bytes) ≡ o → Once row k (beat bytes)
+    go ticked e = record {
+      same = rw e (length-map row (step tick));
+      log = rw e (ap (λ a. entry tick a ∷ []) (ap readByte (beat-byte row bytes k h) ∙ byte-tells (coreAt row k) (ticked-form row (length bytes) k e h)));
+      state = rw e (beat-state row k h);
+    }
+    go (turned n p) e = record { same = rw e; log = rw e; state = rw e }
+once row k h (alone m c) y = go (eqb m k) refl
+  where
+    go : (b : Bool) → eqb m k ≡ b → Once row k (alone m c)
+    go true e =
+        let z : m ≡ k = eqb-true m k e in
+        record { same = length-set row m _; log = rw e; state = rw (e, z) (getD-set-same row k _ (stateOf []) h) }
+    go false e = record { same = length-set row m _; log = rw e; state = rw e (getD-set-other row m k _ (stateOf []) (λ z. eqb-false m k e (sym z))) }
+once row k h (lay m s) y = record { same = length-set row m s; log = refl; state = getD-set-other row m k s (stateOf []) (λ z. go (eqb m k) refl y (sym z)) }
+  where
+    go : (b : Bool) → eqb m k ≡ b → not b ≡ true → m ≡ k → ⊥
+    go true e y z = true≢false (sym y)
+    go false e y z = eqb-false m k e z
+
+pub as-alone : (xs : List RowCall) (row : List Core) (k : ℕ) → k < length row → Each (λ x. staysAt k x ≡ true) xs → AsAlone row k xs
+unfolding Each rowLog rowRun rowCalls log run
+as-alone [] row k h y = record { log = refl; state = refl }
+as-alone (x ∷ xs) row k h y =
+    let o = once row k h x (y .0) in
+    let r = as-alone xs (rowNext x row) k (omega (arith, h, o .same)) (y .1) in
+    let cs = ownCalls k x row in
+    let ds = rowCalls k xs (rowNext x row) in
+    record {
+      log = ap (λ l. l ++ rowLog k xs (rowNext x row)) (o .log) ∙ ap (λ l. log ask step (coreAt row k) cs ++ l) (r .log ∙ ap (λ s. log ask step s ds) (o .state)) ∙ sym (log-append ask step cs ds (coreAt row k));
+      state = r .state ∙ ap (λ s. run step s ds) (o .state) ∙ sym (run-both ask step cs ds (coreAt row k));
+    }
+
+pub on-time : (row : List Core) (k : ℕ) → k < length row → (s : List ℕ) (m : ℕ) → sheetAnswer (verdict s) m ≡ accepted → coreAt row k ≡ sheetState (verdict s) s m → (xs : List RowCall) → Each (λ x. staysAt k x ≡ true) xs → RowKept s m (rowLog k xs row)
+on-time row k h s m a e xs y =
+    let own = as-alone xs row k h y .log ∙ ap (λ c. log ask step c (rowCalls k xs row)) e in
+    let kept = sheet-kept s m a (rowCalls k xs row) in
+    rw own (record { rule = kept .rule; by-period = kept .by-period; never-foreign = kept .never-foreign })
+
+pub row-runs : (row : List Core) → RowRuns row
+row-runs row = record { alone = λ k h xs y. as-alone xs row k h y; on-time = on-time row }

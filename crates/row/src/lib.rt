@@ -1,0 +1,89 @@
+// A row of core states on one beat: each is given its tick, and a lent row of bytes takes the answers (docs/SHEET.md, section 13).
+ghost use mathlib.Core.Path.{_≡_};
+ghost use mathlib.Core.List.{map};
+ghost use Prim.Native.Nat.{_≤_};
+ghost use lib.ListN.{length};
+ghost use Rattle.fit.specs.Lists.{placeOf};
+ghost use Rattle.timing.specs.Calls.{tick};
+ghost use Rattle.dispatcher.specs.State.{foreign};
+ghost use Rattle.dispatcher.specs.Operations.{answerOf, step};
+ghost use Rattle.row.specs.Row.{answerByte, written, outcomeOf, rowOutcome, rowStates, rowBytes};
+ghost use Rattle.row.specs.OnTime.{RowRuns};
+use dispatcher::Answer;
+use dispatcher::Core;
+use sheet::Refusal;
+
+// What a call on a row answers: every state was given its tick, or none was.
+pub enum RowAnswer {
+    Ticked,
+    Refused { word: Refusal, place: usize },
+}
+
+// The answer of a tick as a byte.
+fn byte_of(answer: Answer) -> u8
+    ensures { λ r. ⌜ r ≡ answerByte (answerOf answer) ⌝ }
+{
+    match answer {
+        Answer::Served(number) => number,
+        Answer::Idle => 255,
+        Answer::Accepted => 255,
+        Answer::Refused { word: _, place: _ } => 255,
+    }
+}
+
+// The position of the first foreign state, or the length of the row.
+fn first_foreign(row: &[Core]) -> usize
+    ensures { λ r. ⌜ r ≡ placeOf foreign (now (row .entry)) ⌝ }
+{
+    let n = row.len();
+    let mut i = 0;
+    while i < n {
+        if row[i].is_foreign() {
+            return i;
+        }
+        i += 1;
+    }
+    i
+}
+
+// Each state of a row without a foreign one is given its tick.
+fn tick_each(row: &mut [Core], answers: &mut [u8])
+    requires { ⌜ (length (now row) ≤ length (now answers)) × (length (now row) ≤ placeOf foreign (now row)) ⌝ }
+    ensures states { λ _. ⌜ now (row .exit) ≡ map (step tick) (now (row .entry)) ⌝ }
+    ensures bytes { λ _. ⌜ now (answers .exit) ≡ written (now (row .entry)) (now (answers .entry)) ⌝ }
+{
+    let n = row.len();
+    let mut i = 0;
+    while i < n {
+        let given = row[i].tick_tested();
+        row[i] = given.core;
+        answers[i] = byte_of(given.answer);
+        i += 1;
+    }
+}
+
+// One tick for every state of a row: 24 where there are fewer answer bytes than states, 21 with the position of the first foreign state,
+// else each state becomes what its own tick hands back, and the byte at its position is the number of the task that has the tick, or 255.
+pub fn tick_row(row: &mut [Core], answers: &mut [u8]) -> RowAnswer
+    ensures answer { λ r. ⌜ outcomeOf r ≡ rowOutcome (now (row .entry)) (length (now (answers .entry))) ⌝ }
+    ensures states { λ _. ⌜ now (row .exit) ≡ rowStates (rowOutcome (now (row .entry)) (length (now (answers .entry)))) (now (row .entry)) ⌝ }
+    ensures bytes { λ _. ⌜ now (answers .exit) ≡ rowBytes (rowOutcome (now (row .entry)) (length (now (answers .entry)))) (now (row .entry)) (now (answers .entry)) ⌝ }
+    ensures runs { λ _. ⌜ RowRuns (now (row .entry)) ⌝ }
+{
+    let n = row.len();
+    if answers.len() < n {
+        return RowAnswer::Refused {
+            word: Refusal::Row,
+            place: 0,
+        };
+    }
+    let at = first_foreign(row);
+    if at < n {
+        return RowAnswer::Refused {
+            word: Refusal::Foreign,
+            place: at,
+        };
+    }
+    tick_each(row, answers);
+    RowAnswer::Ticked
+}
