@@ -27,10 +27,10 @@ extern "C" {
 
 #define HOMVAITS_SHEET_MAX 712u /* bytes of the longest sheet, and the least output of homvaits_plan and homvaits_move */
 #define HOMVAITS_TEXT_MAX 8192u /* the least output of homvaits_list, enough for every listing */
-#define HOMVAITS_IDLE 255u      /* homvaits_ticked.task where no task was pending */
+#define HOMVAITS_IDLE 255u      /* homvaits_ticked.task, or an answer byte of homvaits_tick_row, where no task was pending */
 
 /* Refusals, with what `place` is: "task" is a task number (in a refused sheet of version 2 the task's position), "core" is 64 plus a core
- * number. */
+ * number, "row position" is where a state stands in its row, from 0. */
 typedef enum homvaits_refusal {
     HOMVAITS_STUB = 1,      /* under 8 bytes; 0 */
     HOMVAITS_MARK = 2,      /* the bytes do not begin with T S H; 0 */
@@ -52,9 +52,10 @@ typedef enum homvaits_refusal {
     HOMVAITS_EARLY = 18,    /* fewer ticks than its period since the task's last release; task */
     HOMVAITS_LATE = 19,     /* the task's last job is still pending; task */
     HOMVAITS_QUIET = 20,    /* the task has no pending job; task */
-    HOMVAITS_FOREIGN = 21,  /* the state breaks the form of a state: it is damaged; 0 */
+    HOMVAITS_FOREIGN = 21,  /* a state breaks the form of a state: it is damaged; 0, or from homvaits_tick_row the row position */
     HOMVAITS_START = 22,    /* the start is no position in the ring; 0 */
-    HOMVAITS_ORDER = 23     /* a sheet of version 2 is not in order; 0 */
+    HOMVAITS_ORDER = 23,    /* a sheet of version 2 is not in order; 0 */
+    HOMVAITS_ROW = 24       /* fewer answer bytes than core states; 0 */
 } homvaits_refusal;
 
 /* A task of a running core. */
@@ -66,9 +67,9 @@ typedef struct homvaits_task {
     uint8_t number;
 } homvaits_task;
 
-/* The state of a core: its tasks are the first `count` places, in priority order. It is handed in and back by value; keep the last one
- * that was handed back, and change nothing in it. Such a state is never FOREIGN. A damaged one is, where it breaks the form of a state
- * (docs/SHEET.md, 6); other damage goes unnoticed. */
+/* The state of a core: its tasks are the first `count` places, in priority order. It is handed in and back by value, or lent in a row to
+ * homvaits_tick_row; keep the last one that was handed back or left in the row, and change nothing in it. Such a state is never FOREIGN.
+ * A damaged one is, where it breaks the form of a state (docs/SHEET.md, 6); other damage goes unnoticed. */
 typedef struct homvaits_core {
     uint64_t count;
     homvaits_task tasks[64];
@@ -101,6 +102,11 @@ typedef struct homvaits_ticked {
     uint8_t task;       /* who has the tick, or HOMVAITS_IDLE; means nothing in a refused tick */
     homvaits_core core; /* the next state */
 } homvaits_ticked;
+
+typedef struct homvaits_row_ticked {
+    uint8_t refusal;
+    uint64_t place; /* wide enough for every row position */
+} homvaits_row_ticked;
 
 typedef struct homvaits_listed {
     uint8_t refusal;
@@ -198,6 +204,19 @@ homvaits_step homvaits_finish(homvaits_core core, uint64_t task);
  * Refusal:
  *   21 FOREIGN    place 0: the state is damaged; start the core again */
 homvaits_ticked homvaits_tick(homvaits_core core);
+
+/* Begins a unit of time on all cores of a row: `row` is `count` states, one after the other, and each is given its tick in place. Answer
+ * byte k is the number of the task that has the unit on the core at row position k, or HOMVAITS_IDLE. The bytes of `answers` past `count`
+ * stay as they were. An empty row is accepted. `row` and `answers` must not overlap.
+ *
+ * Each state and answer is that of homvaits_tick on this state by itself. So every core of the row that was started from an accepted sheet
+ * ends every job on time, an accepted row being one tick of each of its cores. A refused row writes no byte of `row` or `answers`, and is
+ * no tick of any of its cores.
+ *
+ * Refusals, in this order:
+ *   24 ROW        place 0: `answers_length` is below `count`
+ *   21 FOREIGN    the row position of the first state that is damaged, from 0; start this core again */
+homvaits_row_ticked homvaits_tick_row(homvaits_core *row, size_t count, uint8_t *answers, size_t answers_length);
 
 /* Writes the listing of any bytes to the front of `out`, as text; the bytes past it stay as they were. That of a version 2 sheet is that
  * of its version 1 sheet but for the version. A refused sheet has a listing too, one line such as `refused 14 place 64`, and that is no

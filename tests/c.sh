@@ -11,7 +11,7 @@ cc -std=c11 $flags c/use.c "$lib" -o "$out/use-c"
 "$out/use-c"
 c++ -std=c++11 $flags -x c++ c/use.c -x none "$lib" -o "$out/use-c++"
 "$out/use-c++"
-# the example of the README
+# the examples of the README: the program is run, its function for a row is compiled
 awk '/^```c$/ { on = 1; next } /^```$/ { on = 0 } on' ../README.md > "$out/readme.c"
 cc -std=c11 $flags "$out/readme.c" "$lib" -o "$out/readme-c"
 "$out/readme-c"

@@ -3,7 +3,7 @@
 set -euo pipefail
 lib=${1:-${HOMVAITS_LIB:-$(dirname "$0")/../target/staticlib/libcapi.a}}
 bound=8192      # bytes of stack for any call
-by_value=648    # bytes of a state that a caller hands in by value
+by_value=648    # bytes of a state that a caller hands in by value; tick_row is lent its states
 # functions that call themselves, and how often one call is there at most: put_number once for each digit of a u32
 declare -A times=([listing::put_number]=10)
 
@@ -15,7 +15,7 @@ same() { # what, expected words, found words
     [ "$2" = "$3" ] || fail "$1: expected '$2', found '$3'"
 }
 
-calls="check finish list margin move plan release start start_list tick"
+calls="check finish list margin move plan release start start_list tick tick_row"
 same "undefined symbols" "memcpy memset" "$(nm -u "$lib" | awk 'NF == 2 { print $2 }' | sort -u | xargs)"
 same "public symbols" "$(printf 'homvaits_%s\n' $calls | xargs)" "$(nm -g --defined-only "$lib" | awk 'NF == 3 { print $3 }' | sort -u | xargs)"
 same "writable symbols" "" "$(nm --defined-only "$lib" | awk 'NF == 3 && $2 ~ /[bBcCdDgGsSuvVwW]/ { print $3 }' | xargs)"

@@ -3,7 +3,7 @@
 
 use bench::{plain, workload};
 use inputs::Rng;
-use reference::IDLE;
+use reference::{Core, RowAnswer, IDLE};
 use std::hint::black_box;
 use std::time::Instant;
 
@@ -18,6 +18,7 @@ fn main() {
     check(&sheets);
     plan(&mut rng);
     tick();
+    row();
     margin(&mut rng);
     versions(&sheets);
 }
@@ -78,9 +79,9 @@ fn tick() {
 }
 
 /// Ticks from this state, all with this answer.
-fn ticks(name: &str, first: reference::Core, task: u8) {
+fn ticks(name: &str, first: Core, task: u8) {
     const TICKS: usize = 50_000;
-    let run = |call: fn(reference::Core) -> reference::TickAnswer| {
+    let run = |call: fn(Core) -> reference::TickAnswer| {
         let mut core = first;
         for _ in 0..TICKS {
             let answer = call(black_box(core));
@@ -96,6 +97,54 @@ fn ticks(name: &str, first: reference::Core, task: u8) {
     );
     println!("tick on a core of {name}:");
     compare(TICKS, || run(plain::tick), || run(binding::tick));
+}
+
+fn row() {
+    let (last, none) = (workload::last_pending, workload::none_pending);
+    rows("64 tasks each, only the last pending", last(64), 63);
+    rows("64 tasks each, none pending", none(64), IDLE);
+}
+
+/// Rows of so many cores that begin with this state, all with this answer. Every
+/// row is the same work: the last job has 60,000 ticks, and no other task was
+/// released. Each pass begins anew.
+fn rows(name: &str, first: Core, task: u8) {
+    const ROWS: usize = 10_000;
+    const CORES: usize = 8;
+    let run = |call: fn(&mut [Core], &mut [u8]) -> RowAnswer| {
+        let (mut row, mut answers) = ([first; CORES], [0; CORES]);
+        for _ in 0..ROWS {
+            let answer = call(black_box(&mut row), &mut answers);
+            assert_eq!((answer.refusal, answers), (0, [task; CORES]));
+        }
+        row
+    };
+    let expected = run(plain::tick_row);
+    assert_eq!(run(binding::tick_row), expected, "they differ on a row");
+    assert_eq!(run(single_ticks), expected, "they differ on a row");
+    println!("tick of a row of {CORES} cores of {name}:");
+    let [plain, single, library] = best(
+        ROWS,
+        [&|| run(plain::tick_row), &|| run(single_ticks), &|| {
+            run(binding::tick_row)
+        }],
+    );
+    println!(
+        "  plain {plain:.1} ns, single ticks {single:.1} ns, library {library:.1} ns, \
+         row/single {:.2}, row/plain {:.2}",
+        library / single,
+        library / plain
+    );
+}
+
+/// A row as a caller ticks it by single calls of the library.
+fn single_ticks(row: &mut [Core], answers: &mut [u8]) -> RowAnswer {
+    for (core, answer) in row.iter_mut().zip(answers) {
+        let ticked = binding::tick(*core);
+        *core = ticked.core;
+        *answer = ticked.task;
+    }
+    RowAnswer::default()
 }
 
 fn margin(rng: &mut Rng) {
@@ -170,18 +219,22 @@ fn versions(sheets: &[Vec<u8>]) {
 
 /// Print the best time of each side for one call, and their ratio.
 fn compare<T>(calls: usize, plain: impl Fn() -> T, library: impl Fn() -> T) {
-    let nanoseconds = |run: &dyn Fn() -> T| {
-        let begin = Instant::now();
-        black_box(run());
-        begin.elapsed().as_nanos() as f64 / calls as f64
-    };
-    let (mut best_plain, mut best_library) = (f64::MAX, f64::MAX);
-    for _ in 0..PASSES {
-        best_plain = best_plain.min(nanoseconds(&plain));
-        best_library = best_library.min(nanoseconds(&library));
-    }
+    let [plain, library] = best(calls, [&plain, &library]);
     println!(
-        "  plain {best_plain:.1} ns, library {best_library:.1} ns, ratio {:.2}",
-        best_library / best_plain
+        "  plain {plain:.1} ns, library {library:.1} ns, ratio {:.2}",
+        library / plain
     );
+}
+
+/// The best time of each run for one call, in nanoseconds. The runs take turns.
+fn best<T, const N: usize>(calls: usize, runs: [&dyn Fn() -> T; N]) -> [f64; N] {
+    let mut best = [f64::MAX; N];
+    for _ in 0..PASSES {
+        for (best, run) in best.iter_mut().zip(runs) {
+            let begin = Instant::now();
+            black_box(run());
+            *best = best.min(begin.elapsed().as_nanos() as f64 / calls as f64);
+        }
+    }
+    best
 }

@@ -2,6 +2,7 @@
 
 use bench::{plain, workload};
 use inputs::*;
+use reference::{Core, RowAnswer};
 
 #[test]
 fn check() {
@@ -96,6 +97,37 @@ fn tick() {
         let expected = reference::tick(core);
         assert_eq!(plain::tick(core), expected);
         assert_eq!(binding::tick(core), expected);
+    }
+}
+
+type TickRow = fn(&mut [Core], &mut [u8]) -> RowAnswer;
+
+#[test]
+fn tick_row() {
+    let mut rng = Rng::new(6);
+    let mut rows = vec![
+        vec![workload::last_pending(64); 8],
+        vec![workload::none_pending(64); 8],
+    ];
+    for turn in 0..2000 {
+        let count = rng.index(65);
+        let mut row: Vec<Core> = (0..count).map(|_| any_core(&mut rng, 0)).collect();
+        for _ in 0..(turn % 3).min(count) {
+            row[rng.index(count)] = foreign_core(&mut rng);
+        }
+        rows.push(row);
+    }
+    for row in rows {
+        let count = row.len();
+        let (fewer, more) = (count.saturating_sub(1), count + rng.index(9));
+        let room = rng.pick(&[count, count, more, fewer]);
+        let run = |call: TickRow| {
+            let (mut row, mut answers) = (row.clone(), vec![165; room]);
+            (call(&mut row, &mut answers), row, answers)
+        };
+        let expected = run(reference::tick_row);
+        assert_eq!(run(plain::tick_row), expected);
+        assert_eq!(run(binding::tick_row), expected);
     }
 }
 

@@ -1,5 +1,5 @@
-/* The stack that each call uses on large inputs, an accepted and a refused sheet among them. A call runs on a painted stack; the deepest
- * byte that lost its paint tells how much it took, with its return address and with a state that is handed in by value. */
+/* The stack that each call uses on large inputs, accepted and refused sheets and rows among them. A call runs on a painted stack; the
+ * deepest byte that lost its paint tells how much it took, with its return address and with a state that is handed in by value. */
 #define _XOPEN_SOURCE 700
 #include "homvaits.h"
 
@@ -8,14 +8,15 @@
 #include <string.h>
 #include <ucontext.h>
 
-enum { SIZE = 1 << 16, PAINT = 0xa5, BOUND = 8192, JOBS = 64 };
+enum { SIZE = 1 << 16, PAINT = 0xa5, BOUND = 8192, JOBS = 64, ROW = 8 };
 
 /* Stands in for a call, to tell where the return address lies. It hands back the place of a large answer, as the ABI asks. */
 void nothing(void);
 __asm__(".globl nothing\nnothing: mov %rdi, %rax\n ret\n.section .note.GNU-stack,\"\"\n.text");
 
 #define CALLS(X) \
-    X(check, 0) X(plan, 0) X(start, 0) X(start_list, 0) X(release, 1) X(finish, 1) X(tick, 1) X(list, 0) X(margin, 0) X(move, 0)
+    X(check, 0) X(plan, 0) X(start, 0) X(start_list, 0) X(release, 1) X(finish, 1) X(tick, 1) X(tick_row, 0) \
+    X(list, 0) X(margin, 0) X(move, 0)
 
 /* Called through these, so that a caller's frame is the same whatever stands there. */
 #define POINTER(name, by_value) static __typeof__(homvaits_##name) *volatile name = homvaits_##name;
@@ -29,10 +30,12 @@ static homvaits_checked checked;
 static homvaits_planned planned;
 static homvaits_step step;
 static homvaits_ticked ticked;
+static homvaits_row_ticked row_ticked;
 static homvaits_listed listed;
 static homvaits_margined margined;
 static homvaits_moved moved;
-static homvaits_core fresh, busy;
+static homvaits_core fresh, busy, row[ROW];
+static uint8_t answers[ROW];
 
 static void run_check(void) { checked = check(sheet, sizeof sheet); }
 static void run_plan(void) { planned = plan(jobs, sizeof jobs, 8, 0, sheet, sizeof sheet); }
@@ -41,6 +44,7 @@ static void run_start_list(void) { step = start_list(jobs, sizeof jobs); }
 static void run_release(void) { step = release(fresh, JOBS - 1); }
 static void run_finish(void) { step = finish(busy, JOBS - 1); }
 static void run_tick(void) { ticked = tick(busy); }
+static void run_tick_row(void) { row_ticked = tick_row(row, ROW, answers, sizeof answers); }
 static void run_list(void) { listed = list(sheet, sizeof sheet, text, sizeof text); }
 static void run_margin(void) { margined = margin(jobs, sizeof jobs, JOBS - 1); }
 static void run_move(void) { moved = move(sheet, sizeof sheet, out, sizeof out); }
@@ -59,12 +63,13 @@ static size_t depth(void (*run)(void)) {
 }
 
 /* The deepest of a run with the planned sheet, of one with its moved sheet, and of those where the factor of the last task is 256 more
- * (Stretch). */
+ * (Stretch) and the last state of the row is damaged. */
 static size_t deepest(void (*run)(void)) {
     size_t most = 0;
     for (int i = 0; i < 4; i++) {
         memcpy(sheet, i < 2 ? good : grouped, sizeof sheet);
         sheet[8 + 10 * JOBS - 3] += i % 2;
+        row[ROW - 1].count = JOBS + i % 2;
         size_t used = depth(run);
         if (most < used) most = used;
     }
@@ -91,6 +96,7 @@ int main(void) {
     fresh = homvaits_start_list(jobs, sizeof jobs).core;
     busy = homvaits_release(fresh, JOBS - 1).core;
     assert(busy.count == JOBS && busy.tasks[JOBS - 1].left > 0);
+    for (int i = 0; i < ROW; i++) row[i] = i % 2 ? fresh : busy;
 
     int within = 1;
 #define MEASURE(name, by_value) \

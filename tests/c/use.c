@@ -46,6 +46,10 @@ FIELD(ticked, place, 2, 2);
 FIELD(ticked, task, 4, 1);
 FIELD(ticked, core, 8, 648);
 
+SIZE(row_ticked, 16);
+FIELD(row_ticked, refusal, 0, 1);
+FIELD(row_ticked, place, 8, 8);
+
 SIZE(listed, 6);
 FIELD(listed, refusal, 0, 1);
 FIELD(listed, place, 2, 2);
@@ -298,12 +302,84 @@ static void moves(void) {
     assert(memcmp(text, other, one.length) == 0);
 }
 
+static int row_ticked_as(homvaits_row_ticked ticked, unsigned refusal, uint64_t place) {
+    return ticked.refusal == refusal && ticked.place == place;
+}
+
+/* A good state and a damaged one, in memory that cannot be written. */
+static const homvaits_core fixed_row[2] = {{1, {{5, 2, 0, 2, 0}}}, {65, {{5, 2, 0, 2, 0}}}};
+static const uint8_t fixed_answers[2] = {170, 170};
+
+enum { LONG_ROW = 300 };
+
+static void row_refusals(void) {
+    /* not even the bytes that stand there are written */
+    homvaits_core *fixed = (homvaits_core *)fixed_row;
+    uint8_t *to = (uint8_t *)fixed_answers;
+    assert(row_ticked_as(homvaits_tick_row(fixed, 2, to, 2), HOMVAITS_FOREIGN, 1));
+    assert(row_ticked_as(homvaits_tick_row(fixed, 2, to, 1), HOMVAITS_ROW, 0));
+    assert(row_ticked_as(homvaits_tick_row(fixed, 2, to, 0), HOMVAITS_ROW, 0));
+    assert(row_ticked_as(homvaits_tick_row(fixed, 1, to, 0), HOMVAITS_ROW, 0));
+    assert(row_ticked_as(homvaits_tick_row(fixed + 1, 1, to, 2), HOMVAITS_FOREIGN, 0));
+    /* an empty row has nothing to write */
+    assert(row_ticked_as(homvaits_tick_row(fixed, 0, to, 0), 0, 0));
+    assert(row_ticked_as(homvaits_tick_row(fixed + 1, 0, to, 2), 0, 0));
+
+    /* the first of two damaged states, at places that one byte cannot hold too */
+    static const size_t damaged[][2] = {{0, 299}, {7, 8}, {255, 256}, {256, 299}, {299, 299}};
+    static homvaits_core row[LONG_ROW], before[LONG_ROW];
+    uint8_t answers[LONG_ROW];
+    for (size_t i = 0; i < sizeof damaged / sizeof damaged[0]; i++) {
+        for (size_t k = 0; k < LONG_ROW; k++) row[k] = fixed_row[0];
+        row[damaged[i][1]].count = 65;
+        row[damaged[i][0]].tasks[0].left = 3;
+        memcpy(before, row, sizeof row);
+        memset(answers, 170, sizeof answers);
+        assert(row_ticked_as(homvaits_tick_row(row, LONG_ROW, answers, LONG_ROW), HOMVAITS_FOREIGN, damaged[i][0]));
+        assert(row_ticked_as(homvaits_tick_row(row, LONG_ROW, answers, LONG_ROW - 1), HOMVAITS_ROW, 0));
+        assert(memcmp(row, before, sizeof row) == 0);
+        for (size_t k = 0; k < LONG_ROW; k++) assert(answers[k] == 170);
+    }
+}
+
+/* Both cores of the sheet on one timer, as in docs/SHEET.md, 13, with a state behind the row and answer bytes past it. */
+static void rows(void) {
+    static const uint8_t expected[3][2] = {{3, 2}, {4, 0}, {HOMVAITS_IDLE, 0}};
+    homvaits_core row[3], alone[3];
+    uint8_t answers[4];
+    for (uint64_t k = 0; k < 3; k++) row[k] = homvaits_start(by_number, sizeof by_number, k % 2).core;
+    row[0] = homvaits_release(homvaits_release(row[0], 3).core, 4).core;
+    row[1] = homvaits_release(homvaits_release(row[1], 2).core, 0).core;
+    row[2] = homvaits_release(row[2], 3).core;
+    memcpy(alone, row, sizeof row);
+    memset(answers, 170, sizeof answers);
+    for (int i = 0; i < 3; i++) {
+        /* a refused row is no tick */
+        assert(row_ticked_as(homvaits_tick_row(row, 2, answers, 1), HOMVAITS_ROW, 0));
+        assert(row_ticked_as(homvaits_tick_row(row, 2, answers, i == 0 ? 2 : sizeof answers), 0, 0));
+        for (int k = 0; k < 2; k++) {
+            homvaits_ticked ticked = homvaits_tick(alone[k]);
+            alone[k] = ticked.core;
+            assert(ticked.refusal == 0 && ticked.task == expected[i][k] && answers[k] == expected[i][k]);
+            assert(same_core(&row[k], &alone[k]));
+        }
+        assert(memcmp(&row[2], &alone[2], sizeof row[2]) == 0 && answers[2] == 170 && answers[3] == 170);
+    }
+    assert(row[0].tasks[0].age == 3 && row[0].tasks[1].age == 8 && row[1].tasks[1].left == 5);
+    /* the three rows were three ticks: task 3 waits for one more */
+    assert(homvaits_release(row[0], 3).refusal == HOMVAITS_EARLY);
+    assert(row_ticked_as(homvaits_tick_row(row, 1, answers, 1), 0, 0) && answers[0] == HOMVAITS_IDLE);
+    assert(homvaits_release(row[0], 3).refusal == 0 && row[1].tasks[1].left == 5);
+}
+
 int main(void) {
     check_refusals();
     plan_refusals();
     list_refusals();
     margins();
     moves();
+    row_refusals();
+    rows();
 
     const unsigned jobs[2][2] = {{5, 1}, {9, 7}};
     uint8_t list[8], sheet[HOMVAITS_SHEET_MAX], text[HOMVAITS_TEXT_MAX];

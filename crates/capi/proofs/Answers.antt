@@ -28,6 +28,9 @@ use Rattle.listing.specs.Answers as list
 use Rattle.mover.specs.declared.Moved.{Moved}
 use Rattle.mover.specs.declared.Moved.the-variants as moves
 use Rattle.mover.specs.Answers as move
+use Rattle.row.specs.declared.RowAnswer.{RowAnswer}
+use Rattle.row.specs.declared.RowAnswer.the-variants as rows
+use Rattle.row.specs.Row as row
 use Rattle.margin.specs.declared.Slack.{Slack}
 use Rattle.margin.specs.declared.Slack.the-variants as slacks
 use Rattle.margin.specs.Answers as margin
@@ -40,7 +43,7 @@ use Rattle.dispatcher.specs.Operations.{answerOf}
 use Rattle.dispatcher.specs.Starts.{sheetAnswer}
 use Rattle.dispatcher.specs.OnTime.{Kept, Timely}
 use Rattle.capi.specs.declared.StepAnswer.{StepAnswer}
-use Rattle.capi.specs.Answers.{checkedOf, plannedOf, listedOf, steppedOf, tickedOf, marginedOf, movedOf}
+use Rattle.capi.specs.Answers.{checkedOf, plannedOf, listedOf, steppedOf, tickedOf, rowTickedOf, marginedOf, movedOf}
 
 -- no refusal has the number 0
 pub positive : (w : Refusal) → 1 ≤ numberOf w
@@ -67,6 +70,7 @@ positive words.Quiet = lit≤ tt
 positive words.Foreign = lit≤ tt
 positive words.Start = lit≤ tt
 positive words.Order = lit≤ tt
+positive words.Row = lit≤ tt
 
 -- the checker's answer
 pub checked-accepted : (v : Verdict) (o : check.Outcome) (n c : ℕ) → check.outcomeOf v ≡ o → v ≡ verdicts.Accepted n c → record { refusal = 0; place = 0; tasks = n; cores = c } ≡ checkedOf o
@@ -111,6 +115,14 @@ unfolding listedOf
 listed-tight v o e h = ap listedOf (sym (ap list.answerOf h) ∙ e)
 
 -- that of `margin`, of which the margin has been laid in the answer as bits
+pub row-ticked : (v : RowAnswer) → v ≡ rows.Ticked → record { refusal = 0; place = 0 } ≡ rowTickedOf (row.outcomeOf v)
+unfolding rowTickedOf
+row-ticked v e = rw e
+
+pub row-refused : (v : RowAnswer) (w : Refusal) (k p : ℕ) → v ≡ rows.Refused w p → k ≡ numberOf w → record { refusal = k; place = p } ≡ rowTickedOf (row.outcomeOf v)
+unfolding rowTickedOf
+row-refused v w k p e r = rw (e, r)
+
 pub margined-ticks : (v : Slack) (o : margin.Outcome) (m : ℤ) → margin.outcomeOf v ≡ o → v ≡ slacks.Ticks m → mag m < 2147483648 → record { refusal = 0; place = 0; margin = toZ w32 (ofZ w32 m) } ≡ marginedOf o
 unfolding marginedOf
 margined-ticks v o m e h b = rw (toZ-ofZ w32 m (record { sfits = b })) (ap marginedOf (sym (ap margin.outcomeOf h) ∙ e))

@@ -4,6 +4,7 @@ use lib.IntN.{pos}
 use Rattle.checker.specs.Verdict as check
 use Rattle.planner.specs.Plan as plan
 use Rattle.listing.specs.Answers as list
+use Rattle.row.specs.Row as row
 use Rattle.margin.specs.Answers as margin
 use Rattle.mover.specs.Answers as move
 use Rattle.timing.specs.Calls.{Answer, accepted, served, idle, refused}
@@ -14,6 +15,7 @@ use Rattle.capi.specs.declared.ListAnswer.{ListAnswer}
 use Rattle.capi.specs.declared.MoveAnswer.{MoveAnswer}
 use Rattle.capi.specs.declared.StepAnswer.{StepAnswer}
 use Rattle.capi.specs.declared.Ticked.{Ticked}
+use Rattle.capi.specs.declared.RowTicked.{RowTicked}
 use Rattle.capi.specs.declared.Margined.{Margined}
 
 -- what the checker, the planner and the listing answer
@@ -47,6 +49,11 @@ tickedOf accepted s = record { refusal = 0; place = 0; task = 0; core = s }
 tickedOf (served j) s = record { refusal = 0; place = 0; task = j; core = s }
 tickedOf idle s = record { refusal = 0; place = 0; task = 255; core = s }
 tickedOf (refused k p) s = record { refusal = k; place = p; task = 0; core = s }
+
+-- what a tick of a row answers
+unfoldable pub rowTickedOf : row.Outcome → RowTicked
+rowTickedOf row.ticked = record { refusal = 0; place = 0 }
+rowTickedOf (row.turned k p) = record { refusal = k; place = p }
 
 -- what `margin` answers
 unfoldable pub marginedOf : margin.Outcome → Margined

@@ -12,10 +12,12 @@ ghost use Rattle.timing.specs.Calls.{Call, release, finish, tick};
 ghost use Rattle.dispatcher.specs.Operations.{answerOf, ask, step};
 ghost use Rattle.dispatcher.specs.Starts.{sheetAnswer, sheetState, listAnswer, listState};
 ghost use Rattle.dispatcher.specs.OnTime.{Kept};
+ghost use Rattle.row.specs.Row.{outcomeOf, rowOutcome, rowStates, rowBytes};
+ghost use Rattle.row.specs.OnTime.{RowRuns};
 ghost use Rattle.margin.specs.Answers.{marginAnswer};
 ghost use Rattle.margin.specs.Exact.{Exact};
 ghost use Rattle.mover.specs.Answers.{moveAnswer, moveOutput};
-ghost use Rattle.capi.specs.Answers.{checkedOf, plannedOf, listedOf, steppedOf, tickedOf, marginedOf, movedOf};
+ghost use Rattle.capi.specs.Answers.{checkedOf, plannedOf, listedOf, steppedOf, tickedOf, rowTickedOf, marginedOf, movedOf};
 ghost use Rattle.capi.specs.Moved.{RunsAlike};
 ghost use Rattle.capi.specs.Planned.{RunsOnTime};
 use checker::Verdict;
@@ -26,6 +28,7 @@ use listing::Listed;
 use margin::Slack;
 use mover::Moved;
 use planner::Planned;
+use row::RowAnswer;
 
 #[repr(C)]
 pub struct Checked {
@@ -71,6 +74,12 @@ pub struct Ticked {
     pub place: u16,
     pub task: u8,
     pub core: Core,
+}
+
+#[repr(C)]
+pub struct RowTicked {
+    pub refusal: u8,
+    pub place: u64,
 }
 
 #[repr(C)]
@@ -242,6 +251,32 @@ pub extern "C" fn homvaits_tick(core: Core) -> Ticked
             core: next,
         },
     }
+}
+
+fn row_ticked(answer: RowAnswer) -> RowTicked
+    ensures { λ r. ⌜ r ≡ rowTickedOf (outcomeOf answer) ⌝ }
+{
+    match answer {
+        RowAnswer::Ticked => RowTicked {
+            refusal: 0,
+            place: 0,
+        },
+        RowAnswer::Refused { word, place } => RowTicked {
+            refusal: sheet::number(word),
+            place: place as u64,
+        },
+    }
+}
+
+// Each core of the row has the log of its own calls, and one that was started from a sheet ends every job on time.
+#[no_mangle]
+pub extern "C" fn homvaits_tick_row(row: &mut [Core], answers: &mut [u8]) -> RowTicked
+    ensures answer { λ r. ⌜ r ≡ rowTickedOf (rowOutcome (now (row .entry)) (length (now (answers .entry)))) ⌝ }
+    ensures states { λ _. ⌜ now (row .exit) ≡ rowStates (rowOutcome (now (row .entry)) (length (now (answers .entry)))) (now (row .entry)) ⌝ }
+    ensures bytes { λ _. ⌜ now (answers .exit) ≡ rowBytes (rowOutcome (now (row .entry)) (length (now (answers .entry)))) (now (row .entry)) (now (answers .entry)) ⌝ }
+    ensures runs { λ _. ⌜ RowRuns (now (row .entry)) ⌝ }
+{
+    row_ticked(row::tick_row(row, answers))
 }
 
 // The margins of a list are zero or more exactly when no run from its bench start leaves a job pending once its period has passed.

@@ -226,7 +226,7 @@ mod tests {
             (Word::Overload, Place::Core(0)),
             (Word::Chain, Place::Task(63)),
             (Word::Spare, Place::Offset(u16::MAX)),
-            (Word::Other(99), Place::Other(u16::MAX)),
+            (Word::Other(99), Place::Other(u64::MAX)),
         ] {
             let mut page = Page::default();
             refused(

@@ -32,7 +32,7 @@ pub enum Answer {
     /// Of a tick: the task that has it, or none.
     Ticked(Option<u8>),
     /// The number and the place of a refusal.
-    Refused(u8, u16),
+    Refused(u8, u64),
 }
 
 #[derive(Clone, Copy, Debug, PartialEq, Eq)]

@@ -23,6 +23,7 @@ layout!(Checked, 6, refusal 0 1, place 2 2, tasks 4 1, cores 5 1);
 layout!(Planned, 8, refusal 0 1, place 2 2, tasks 4 1, cores 5 1, length 6 2);
 layout!(Step, 656, refusal 0 1, place 2 2, core 8 648);
 layout!(Ticked, 656, refusal 0 1, place 2 2, task 4 1, core 8 648);
+layout!(RowTicked, 16, refusal 0 1, place 8 8);
 layout!(Listed, 6, refusal 0 1, place 2 2, length 4 2);
 layout!(Margined, 8, refusal 0 1, place 2 2, margin 4 4);
 layout!(Moved, 6, refusal 0 1, place 2 2, length 4 2);

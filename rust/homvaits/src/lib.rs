@@ -2,7 +2,8 @@
 //! `docs/SHEET.md` of the repository.
 //!
 //! A [`Sheet`] is an accepted one, checked, planned or moved. A [`Core`] is started from it, and then told what happens: a task is
-//! released, a job ends early, a unit of time begins. The answer to a tick is the task that has this unit of time.
+//! released, a job ends early, a unit of time begins. The answer to a tick is the task that has this unit of time. Where one timer drives
+//! several cores, [`tick_row`] ticks a row of them in one call.
 //!
 //! ```
 //! use homvaits::{plan, Core, Job};
@@ -59,7 +60,7 @@ mod sys;
 
 pub use job::Job;
 pub use refusal::{Place, Refusal, Word};
-pub use running::{Core, Task};
+pub use running::{tick_row, Core, Task};
 pub use sheet::{Sheet, SheetCore, SheetTask};
 
 /// Bytes of the longest sheet.
@@ -67,6 +68,9 @@ pub const SHEET_MAX: usize = 712;
 
 /// Bytes that are enough for every listing.
 pub const LISTING_MAX: usize = 8192;
+
+/// The answer byte of [`tick_row`] for a core on which no task is pending.
+pub const IDLE: u8 = 255;
 
 /// The counts of an accepted sheet.
 #[derive(Clone, Copy, Debug, PartialEq, Eq, Hash)]

@@ -25,19 +25,23 @@ pub enum Place {
     Core(u8),
     /// A byte of the sheet, by its offset.
     Offset(u16),
+    /// A core of a row, by its position, from 0; from [`tick_row`](crate::tick_row) alone.
+    Row(usize),
     /// A place that this crate cannot read, as the library gave it. It comes with a library of another version only.
-    Other(u16),
+    Other(u64),
 }
 
 impl Place {
-    /// The place as a number: a task number or position, 64 plus a core number, a byte offset, or 0.
+    /// The place as a number: a task number or position, 64 plus a core number, a byte offset, a row position, or 0.
     #[must_use]
-    pub const fn number(self) -> u16 {
+    pub const fn number(self) -> u64 {
         match self {
             Place::Whole => 0,
-            Place::Task(task) => task as u16,
-            Place::Core(core) => 64 + core as u16,
-            Place::Offset(number) | Place::Other(number) => number,
+            Place::Task(task) => task as u64,
+            Place::Core(core) => 64 + core as u64,
+            Place::Offset(offset) => offset as u64,
+            Place::Row(position) => position as u64,
+            Place::Other(number) => number,
         }
     }
 }
@@ -49,16 +53,18 @@ enum Kind {
     Core,
     TaskOrCore,
     Offset,
+    Row,
     Unknown,
 }
 
 impl Kind {
-    fn place(self, number: u16) -> Place {
+    fn place(self, number: u64) -> Place {
         match (self, number) {
             (Kind::Whole, 0) => Place::Whole,
-            (Kind::Offset, _) => Place::Offset(number),
+            (Kind::Offset, 0..=0xFFFF) => Place::Offset(number as u16),
             (Kind::Task | Kind::TaskOrCore, 0..=63) => Place::Task(number as u8),
             (Kind::Core | Kind::TaskOrCore, 64..=71) => Place::Core((number - 64) as u8),
+            (Kind::Row, _) => usize::try_from(number).map_or(Place::Other(number), Place::Row),
             _ => Place::Other(number),
         }
     }
@@ -83,7 +89,7 @@ macro_rules! words {
                 }
             }
 
-            /// The number of the word, 1 to 23.
+            /// The number of the word, 1 to 24.
             #[must_use]
             pub const fn number(self) -> u8 {
                 match self {
@@ -144,6 +150,7 @@ words! {
     21 Foreign "Foreign" Whole "the state is damaged"
     22 Start "Start" Whole "the start is no position in the ring"
     23 Order "Order" Whole "the old numbers, the task counts or the order of a core's tasks are wrong"
+    24 Row "Row" Whole "there are fewer answer bytes than core states"
 }
 
 impl Refusal {
@@ -151,7 +158,20 @@ impl Refusal {
         let word = Word::of(number);
         Refusal {
             word,
-            place: word.kind().place(place),
+            place: word.kind().place(u64::from(place)),
+        }
+    }
+
+    /// A refusal of a row, where the place of a damaged state is its row position.
+    pub(crate) fn of_row(number: u8, place: u64) -> Refusal {
+        let word = Word::of(number);
+        let kind = match word {
+            Word::Foreign => Kind::Row,
+            _ => word.kind(),
+        };
+        Refusal {
+            word,
+            place: kind.place(place),
         }
     }
 
@@ -163,7 +183,7 @@ impl Refusal {
         }
     }
 
-    /// The number of the word, 1 to 23. The place's is [`Place::number`].
+    /// The number of the word, 1 to 24. The place's is [`Place::number`].
     #[must_use]
     pub const fn number(self) -> u8 {
         self.word.number()
@@ -178,6 +198,7 @@ impl fmt::Display for Refusal {
             Place::Task(task) => write!(f, " at task {task}")?,
             Place::Core(core) => write!(f, " at core {core}")?,
             Place::Offset(offset) => write!(f, " at byte {offset}")?,
+            Place::Row(position) => write!(f, " at row position {position}")?,
             Place::Other(number) => write!(f, " at place {number}")?,
         }
         write!(f, ": {}", self.word.text())
@@ -196,10 +217,15 @@ mod tests {
         for number in 1..=255 {
             for place in 0..=u16::MAX {
                 let refusal = Refusal::of(number, place);
+                let kept = (refusal.number(), refusal.place.number());
+                assert_eq!(kept, (number, u64::from(place)));
+            }
+            for place in [0, 1, 63, 64, 72, 65_535, 65_536, u64::MAX] {
+                let refusal = Refusal::of_row(number, place);
                 assert_eq!((refusal.number(), refusal.place.number()), (number, place));
             }
             let known = !matches!(Word::of(number), Word::Other(_));
-            assert_eq!(known, number <= 23);
+            assert_eq!(known, number <= 24);
         }
         assert_eq!(Refusal::unless_zero(0, 0), Ok(()));
     }
@@ -207,13 +233,28 @@ mod tests {
     #[test]
     fn what_only_another_library_gives_is_shown_as_it_came() {
         assert_eq!(
-            Refusal::of(24, 70).to_string(),
-            "refused 24 (unknown) at place 70: the library is of another version"
+            Refusal::of(25, 70).to_string(),
+            "refused 25 (unknown) at place 70: the library is of another version"
         );
         assert_eq!(Refusal::of(1, 70).place, Place::Other(70));
         assert_eq!(Refusal::of(23, 1).place, Place::Other(1));
         assert_eq!(Refusal::of(7, 64).place, Place::Other(64));
         assert_eq!(Refusal::of(14, 72).place, Place::Other(72));
         assert_eq!(Refusal::of(14, 63).place, Place::Other(63));
+        assert_eq!(Refusal::of(21, 1).place, Place::Other(1));
+        assert_eq!(Refusal::of_row(24, 1).place, Place::Other(1));
+        assert_eq!(Refusal::of_row(6, 65_536).place, Place::Other(65_536));
+    }
+
+    #[test]
+    fn a_damaged_state_of_a_row_is_at_its_position() {
+        assert_eq!(Refusal::of(21, 0).place, Place::Whole);
+        assert_eq!(Refusal::of_row(21, 0).place, Place::Row(0));
+        assert_eq!(Refusal::of_row(21, 65_536).place, Place::Row(65_536));
+        assert_eq!(Refusal::of_row(24, 0).place, Place::Whole);
+        assert_eq!(
+            Refusal::of_row(21, 3).to_string(),
+            "refused 21 (Foreign) at row position 3: the state is damaged"
+        );
     }
 }

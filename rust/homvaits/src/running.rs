@@ -1,6 +1,6 @@
 use core::fmt;
 
-use crate::{sys, Job, Place, Refusal, Sheet, Word};
+use crate::{sys, Job, Place, Refusal, Sheet, Word, IDLE};
 
 /// A task of a running core.
 #[repr(C)]
@@ -32,7 +32,9 @@ impl Task {
 /// A core started from a [`Sheet`] ends every job on time, whatever is released, finished and ticked: a job has ended at the latest
 /// [`within`](crate::SheetTask::within) ticks after its release.
 ///
-/// Time passes by [`tick`](Core::tick) alone. A refused call leaves the core as it was.
+/// Time passes by [`tick`](Core::tick) and [`tick_row`] alone. A refused call leaves the core as it was.
+// A slice of cores is handed to the library as a row of states, so a core must be its state and nothing more.
+#[repr(transparent)]
 #[derive(Clone, PartialEq, Eq, Hash)]
 pub struct Core {
     state: sys::Core,
@@ -115,12 +117,64 @@ impl Core {
         let answer = unsafe { sys::homvaits_tick(self.state) };
         Refusal::unless_zero(answer.refusal, answer.place)?;
         self.state = answer.core;
-        Ok((answer.task != sys::IDLE).then_some(answer.task))
+        Ok((answer.task != IDLE).then_some(answer.task))
     }
 
     fn from_step(answer: sys::Step) -> Result<Core, Refusal> {
         Refusal::unless_zero(answer.refusal, answer.place)?;
         Ok(Core { state: answer.core })
+    }
+}
+
+/// Begins a unit of time on all cores of a row. Byte k of the answers is the number of the task that has it on core k of the row, or
+/// [`IDLE`]; bytes past the row stay as they were.
+///
+/// Each core and answer is that of [`Core::tick`] on this core by itself. So every core of the row that was started from a [`Sheet`] ends
+/// every job on time, an accepted row being one tick of each of its cores. A refused row leaves all cores and answers as they were, and is
+/// no tick of any of them. An empty row is accepted.
+///
+/// ```
+/// use homvaits::{plan, tick_row, Core, Job, IDLE};
+///
+/// # fn main() -> Result<(), homvaits::Refusal> {
+/// // two tasks that each need a core
+/// let sheet = plan(&[Job { period: 5, budget: 3 }; 2], 2, 0)?;
+/// let mut row = [Core::start(&sheet, 0)?, Core::start(&sheet, 1)?];
+/// let mut answers = [0; 2];
+/// row[1].release(1)?;
+/// tick_row(&mut row, &mut answers)?;
+/// assert_eq!(answers, [IDLE, 1]);
+/// row[0].release(0)?;
+/// tick_row(&mut row, &mut answers)?;
+/// assert_eq!(answers, [0, 1]);
+///
+/// let refusal = tick_row(&mut row, &mut answers[..1]).unwrap_err();
+/// assert_eq!(
+///     refusal.to_string(),
+///     "refused 24 (Row): there are fewer answer bytes than core states"
+/// );
+/// # Ok(())
+/// # }
+/// ```
+///
+/// # Errors
+///
+/// In this order: [`Word::Row`] if there are fewer answer bytes than cores; [`Word::Foreign`] if a core's memory was damaged, with
+/// [`Place::Row`], the position of the first such core.
+pub fn tick_row(row: &mut [Core], answers: &mut [u8]) -> Result<(), Refusal> {
+    // SAFETY: each pointer stands with the length of its own slice, and a slice lent for writing overlaps no other. A core is its state
+    // (`repr(transparent)`), whose fields may hold any numbers.
+    let answer = unsafe {
+        sys::homvaits_tick_row(
+            row.as_mut_ptr().cast(),
+            row.len(),
+            answers.as_mut_ptr(),
+            answers.len(),
+        )
+    };
+    match answer.refusal {
+        0 => Ok(()),
+        number => Err(Refusal::of_row(number, answer.place)),
     }
 }
 
@@ -135,6 +189,7 @@ impl fmt::Debug for Core {
 #[cfg(test)]
 mod tests {
     use super::*;
+    use std::vec;
 
     #[test]
     fn a_damaged_core_is_foreign_and_stays_as_it_was() {
@@ -156,5 +211,53 @@ mod tests {
         core.state.count = u64::MAX;
         assert_eq!(core.tick(), Err(foreign));
         assert_eq!(core.tasks().len(), 64);
+    }
+
+    #[test]
+    fn a_damaged_core_stops_its_row_at_its_position() {
+        let jobs = [Job {
+            period: 5,
+            budget: 2,
+        }];
+        let mut good = Core::start_list(&jobs).unwrap();
+        good.release(0).unwrap();
+        let row = vec![good.clone(); 300];
+        let foreign = |position| {
+            Err(Refusal {
+                word: Word::Foreign,
+                place: Place::Row(position),
+            })
+        };
+        let short = Err(Refusal {
+            word: Word::Row,
+            place: Place::Whole,
+        });
+        for positions in [&[0][..], &[1], &[256], &[299], &[7, 8, 299], &[0, 299]] {
+            let mut damaged = row.clone();
+            for &position in positions {
+                damaged[position].state.tasks[0].left = 3;
+            }
+            let before = damaged.clone();
+            let mut answers = [170; 302];
+            assert_eq!(tick_row(&mut damaged, &mut answers), foreign(positions[0]));
+            // fewer answer bytes come first
+            assert_eq!(tick_row(&mut damaged, &mut answers[..299]), short);
+            assert!(damaged == before && answers == [170; 302]);
+            // the cores before the first damaged one are a good row
+            let (front, _) = damaged.split_at_mut(positions[0]);
+            assert_eq!(tick_row(front, &mut answers), Ok(()));
+            assert!(answers[..front.len()].iter().all(|&task| task == 0));
+            assert!(answers[front.len()..].iter().all(|&byte| byte == 170));
+            assert!(damaged[positions[0]..] == before[positions[0]..]);
+        }
+
+        // what stands past the tasks is not looked at, and stays
+        let mut core = good.clone();
+        core.state.tasks[1].left = 9;
+        let mut row = [core.clone(), good];
+        let mut answers = [170; 2];
+        tick_row(&mut row, &mut answers).unwrap();
+        assert_eq!((core.tick(), answers), (Ok(Some(0)), [0, 0]));
+        assert!(row[0] == core && row[0].state.tasks[1].left == 9);
     }
 }

@@ -42,6 +42,12 @@ pub struct Ticked {
 }
 
 #[repr(C)]
+pub struct RowTicked {
+    pub refusal: u8,
+    pub place: u64,
+}
+
+#[repr(C)]
 pub struct Listed {
     pub refusal: u8,
     pub place: u16,
@@ -62,9 +68,6 @@ pub struct Moved {
     pub length: u16,
 }
 
-/// The task of a tick that no task has.
-pub const IDLE: u8 = 255;
-
 extern "C" {
     pub fn homvaits_check(sheet: *const u8, len: usize) -> Checked;
     pub fn homvaits_plan(
@@ -80,13 +83,19 @@ extern "C" {
     pub fn homvaits_release(core: Core, task: u64) -> Step;
     pub fn homvaits_finish(core: Core, task: u64) -> Step;
     pub fn homvaits_tick(core: Core) -> Ticked;
+    pub fn homvaits_tick_row(
+        row: *mut Core,
+        count: usize,
+        answers: *mut u8,
+        answers_length: usize,
+    ) -> RowTicked;
     pub fn homvaits_list(sheet: *const u8, len: usize, out: *mut u8, out_len: usize) -> Listed;
     pub fn homvaits_margin(jobs: *const u8, len: usize, task: u64) -> Margined;
     pub fn homvaits_move(sheet: *const u8, len: usize, out: *mut u8, out_len: usize) -> Moved;
 }
 
 mod layout {
-    use super::{Checked, Core, Listed, Margined, Moved, Planned, Step, Ticked};
+    use super::{Checked, Core, Listed, Margined, Moved, Planned, RowTicked, Step, Ticked};
     use crate::Task;
     include!("layout.rs");
 }

@@ -1,6 +1,7 @@
 //! Each kind of refusal: word, place and text.
 
-use homvaits::{check, margin, move_sheet, plan, Core, Job, Place, Refusal, Sheet, Word};
+use homvaits::{check, margin, move_sheet, plan, tick_row};
+use homvaits::{Core, Job, Place, Refusal, Sheet, Word};
 
 /// Three tasks that fill one core: 3 1, 7 1 and 13 6, with factors 1, 2 and 4.
 const FULL: [u8; 46] = [
@@ -297,6 +298,24 @@ fn cores() {
 }
 
 #[test]
+fn rows() {
+    let mut core = Core::start_list(&[job(5, 2)]).unwrap();
+    core.release(0).unwrap();
+    let mut row = vec![core; 3];
+    let before = row.clone();
+    for length in 0..3 {
+        let mut answers = vec![170; length];
+        refused(
+            tick_row(&mut row, &mut answers),
+            Word::Row,
+            Place::Whole,
+            "refused 24 (Row): there are fewer answer bytes than core states",
+        );
+        assert_eq!((&row, answers), (&before, vec![170; length]));
+    }
+}
+
+#[test]
 fn margins() {
     refused(
         margin(&[job(0, 0); 65], 99),
@@ -340,5 +359,14 @@ fn words_that_no_call_of_the_wrapper_gives() {
     assert_eq!(
         foreign.to_string(),
         "refused 21 (Foreign): the state is damaged"
+    );
+    let in_a_row = Refusal {
+        place: Place::Row(70_000),
+        ..foreign
+    };
+    assert_eq!((in_a_row.number(), in_a_row.place.number()), (21, 70_000));
+    assert_eq!(
+        in_a_row.to_string(),
+        "refused 21 (Foreign) at row position 70000: the state is damaged"
     );
 }

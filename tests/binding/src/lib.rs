@@ -5,12 +5,15 @@
 mod layout {
     use reference::{CheckAnswer as Checked, ListAnswer as Listed, PlanAnswer as Planned};
     use reference::{Core, CoreAnswer as Step, Task, TickAnswer as Ticked};
-    use reference::{MarginAnswer as Margined, MoveAnswer as Moved};
+    use reference::{MarginAnswer as Margined, MoveAnswer as Moved, RowAnswer as RowTicked};
     include!("../../../rust/homvaits/src/layout.rs");
 }
 
 use reference::{CheckAnswer, ListAnswer, MarginAnswer, MoveAnswer, PlanAnswer};
-use reference::{Core, CoreAnswer, TickAnswer};
+use reference::{Core, CoreAnswer, RowAnswer, TickAnswer};
+
+// a row of states stands in memory as in C: one after the other, 648 bytes each
+const _: () = assert!(size_of::<[Core; 2]>() == 2 * 648 && align_of::<Core>() == 8);
 
 extern "C" {
     fn homvaits_check(sheet: *const u8, len: usize) -> CheckAnswer;
@@ -27,6 +30,13 @@ extern "C" {
     fn homvaits_release(core: Core, number: u64) -> CoreAnswer;
     fn homvaits_finish(core: Core, number: u64) -> CoreAnswer;
     fn homvaits_tick(core: Core) -> TickAnswer;
+    /// For memory that cannot be written; else there is `tick_row`.
+    pub fn homvaits_tick_row(
+        row: *mut Core,
+        count: usize,
+        answers: *mut u8,
+        answers_length: usize,
+    ) -> RowAnswer;
     fn homvaits_list(sheet: *const u8, len: usize, out: *mut u8, out_len: usize) -> ListAnswer;
     fn homvaits_margin(jobs: *const u8, len: usize, number: u64) -> MarginAnswer;
     fn homvaits_move(sheet: *const u8, len: usize, out: *mut u8, out_len: usize) -> MoveAnswer;
@@ -62,6 +72,12 @@ pub fn finish(core: Core, number: u64) -> CoreAnswer {
 
 pub fn tick(core: Core) -> TickAnswer {
     unsafe { homvaits_tick(core) }
+}
+
+pub fn tick_row(row: &mut [Core], answers: &mut [u8]) -> RowAnswer {
+    let (row, count) = (row.as_mut_ptr(), row.len());
+    let (answers, answers_length) = (answers.as_mut_ptr(), answers.len());
+    unsafe { homvaits_tick_row(row, count, answers, answers_length) }
 }
 
 pub fn list_into(sheet: &[u8], out: &mut [u8]) -> ListAnswer {

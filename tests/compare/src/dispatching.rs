@@ -4,7 +4,7 @@ use crate::checking::{GROUPED_RULES, RULES};
 use crate::on_time::{jobs_on_time, Entry, Promise};
 use crate::session::{fail, hex, same, Session};
 use inputs::*;
-use reference::{Core, CoreAnswer, TickAnswer};
+use reference::{Core, CoreAnswer, Sheet, TickAnswer};
 
 pub fn must_have_seen(session: &Session) {
     let (none, task) = ("place 0", "a task above 0");
@@ -23,8 +23,8 @@ pub fn must_have_seen(session: &Session) {
     session.must_have_seen("job on time", &[(0, VERSION_1), (0, VERSION_2)]);
 }
 
-const VERSION_1: &str = "of a version 1 sheet";
-const VERSION_2: &str = "of a version 2 sheet";
+pub const VERSION_1: &str = "of a version 1 sheet";
+pub const VERSION_2: &str = "of a version 2 sheet";
 
 /// Where the task that is served stands among its eight, for a library that
 /// looks at eight places at a time.
@@ -122,24 +122,34 @@ fn kinds_of_tick(session: &mut Session, core: &Core, task: u8) {
     }
 }
 
-fn run_of_sheet(session: &mut Session, rng: &mut Rng) {
-    let (bytes, version) = match rng.below(4) {
+/// An accepted sheet, and its version.
+pub fn sheet_to_run(rng: &mut Rng) -> (Vec<u8>, &'static str) {
+    match rng.below(4) {
         0 => (planned_sheet(rng), VERSION_1),
         1 => (handmade_sheet(rng), VERSION_1),
         _ => (grouped_sheet(rng), VERSION_2),
-    };
-    let sheet = reference::accept(&bytes).expect("the sheet is accepted");
-    if sheet.cores.is_empty() {
-        return;
     }
-    let number = rng.index(sheet.cores.len());
+}
+
+/// What a sheet promises of the tasks of a core.
+pub fn promises(sheet: &Sheet, core: usize) -> Vec<Promise> {
     let promise = |i: usize| Promise {
         number: i as u64,
         period: sheet.tasks[i].period,
         budget: sheet.tasks[i].budget,
         within: Some(sheet.within(i)),
     };
-    let tasks: Vec<Promise> = sheet.by_priority(number).into_iter().map(promise).collect();
+    sheet.by_priority(core).into_iter().map(promise).collect()
+}
+
+fn run_of_sheet(session: &mut Session, rng: &mut Rng) {
+    let (bytes, version) = sheet_to_run(rng);
+    let sheet = reference::accept(&bytes).expect("the sheet is accepted");
+    if sheet.cores.is_empty() {
+        return;
+    }
+    let number = rng.index(sheet.cores.len());
+    let tasks = promises(&sheet, number);
     let fresh = start_sheet(session, &bytes, number as u64).core;
     let input = || format!("{} core {number}", hex(&bytes));
     if run(session, rng, fresh, &tasks, input) > 0 {
@@ -190,7 +200,18 @@ fn run(
             task,
         });
     }
-    match jobs_on_time(&log, tasks) {
+    on_time(session, &log, tasks, input)
+}
+
+/// The number of jobs that were owed and ended in time; a job that did not is
+/// a difference.
+pub fn on_time(
+    session: &mut Session,
+    log: &[Entry],
+    tasks: &[Promise],
+    input: impl Fn() -> String,
+) -> u64 {
+    match jobs_on_time(log, tasks) {
         Ok(jobs) => {
             session.cases += (jobs > 0) as u64;
             jobs
@@ -236,7 +257,7 @@ fn start_list(session: &mut Session, list: &[u8]) -> CoreAnswer {
     library
 }
 
-fn release(session: &mut Session, core: Core, number: u64) -> CoreAnswer {
+pub fn release(session: &mut Session, core: Core, number: u64) -> CoreAnswer {
     let reference = reference::release(core, number);
     let library = binding::release(core, number);
     let input = || format!("{} number {number}", state_hex(&core));
@@ -245,7 +266,7 @@ fn release(session: &mut Session, core: Core, number: u64) -> CoreAnswer {
     library
 }
 
-fn finish(session: &mut Session, core: Core, number: u64) -> CoreAnswer {
+pub fn finish(session: &mut Session, core: Core, number: u64) -> CoreAnswer {
     let reference = reference::finish(core, number);
     let library = binding::finish(core, number);
     let input = || format!("{} number {number}", state_hex(&core));
@@ -267,7 +288,7 @@ fn tick(session: &mut Session, core: Core) -> TickAnswer {
 }
 
 /// The count, and a state's tasks field by field, low byte first.
-fn state_hex(core: &Core) -> String {
+pub fn state_hex(core: &Core) -> String {
     let mut bytes = core.count.to_le_bytes().to_vec();
     for task in &core.tasks {
         for field in [task.period, task.budget, task.age, task.left] {

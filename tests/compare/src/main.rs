@@ -10,6 +10,7 @@ mod moving;
 mod on_time;
 mod order;
 mod planning;
+mod rows;
 mod session;
 
 use inputs::Rng;
@@ -32,7 +33,9 @@ fn main() {
         dispatching::round(&mut session, &mut rng);
         margins::round(&mut session, &mut rng);
         moving::round(&mut session, &mut rng);
+        rows::round(&mut session, &mut rng);
     }
+    rows::long(&mut session, &mut Rng::new(seed));
 
     checking::must_have_seen(&session);
     planning::must_have_seen(&session);
@@ -40,5 +43,6 @@ fn main() {
     listing::must_have_seen(&session);
     margins::must_have_seen(&session);
     moving::must_have_seen(&session);
+    rows::must_have_seen(&session);
     println!("compare: {} cases, 0 differences", session.cases);
 }

@@ -2,6 +2,7 @@
 //! makes one deliberate mistake, which the harness must notice.
 
 mod grouped;
+mod rows;
 
 use reference::*;
 use std::slice::{from_raw_parts, from_raw_parts_mut};
@@ -157,6 +158,20 @@ pub extern "C" fn homvaits_tick(core: Core) -> TickAnswer {
         answer.core.tasks[core.count as usize..].fill(Task::default());
     }
     answer
+}
+
+/// # Safety
+/// `row` has `count` states, and `answers` has `answers_length` bytes.
+#[no_mangle]
+pub unsafe extern "C" fn homvaits_tick_row(
+    row: *mut Core,
+    count: usize,
+    answers: *mut u8,
+    answers_length: usize,
+) -> RowAnswer {
+    let row = from_raw_parts_mut(row, count);
+    let answers = from_raw_parts_mut(answers, answers_length);
+    rows::ticked(row, answers, wrong)
 }
 
 /// # Safety

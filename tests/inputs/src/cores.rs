@@ -1,7 +1,7 @@
 //! Random states of a core.
 
 use crate::{job_list, Rng};
-use reference::{start_list, Core, Task};
+use reference::{start_list, tick, Core, Task};
 
 pub const CORE_DAMAGES: usize = 12;
 
@@ -11,6 +11,17 @@ pub fn any_core(rng: &mut Rng, kind: usize) -> Core {
     let mut core = sound_core(rng);
     damage(rng, &mut core, kind);
     core
+}
+
+/// A state that is Foreign, by one of the kinds of damage.
+pub fn foreign_core(rng: &mut Rng) -> Core {
+    loop {
+        let kind = rng.range(1, CORE_DAMAGES as u64 - 1) as usize;
+        let core = any_core(rng, kind);
+        if tick(core).refusal == 21 {
+            return core;
+        }
+    }
 }
 
 fn sound_core(rng: &mut Rng) -> Core {

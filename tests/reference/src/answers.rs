@@ -44,6 +44,14 @@ pub struct TickAnswer {
     pub core: Core,
 }
 
+/// The answer of a row; `place` is a position in it.
+#[repr(C)]
+#[derive(Clone, Copy, Debug, Default, PartialEq, Eq)]
+pub struct RowAnswer {
+    pub refusal: u8,
+    pub place: u64,
+}
+
 #[repr(C)]
 #[derive(Clone, Copy, Debug, Default, PartialEq, Eq)]
 pub struct ListAnswer {

@@ -13,11 +13,12 @@ mod listing;
 mod margin;
 mod mover;
 mod planner;
+mod row;
 mod sheet;
 
 pub use answers::{
-    CheckAnswer, Core, CoreAnswer, ListAnswer, MarginAnswer, MoveAnswer, PlanAnswer, Task,
-    TickAnswer, IDLE,
+    CheckAnswer, Core, CoreAnswer, ListAnswer, MarginAnswer, MoveAnswer, PlanAnswer, RowAnswer,
+    Task, TickAnswer, IDLE,
 };
 pub use checker::{accept, check};
 pub use dispatcher::{finish, release, start_list, start_sheet, tick};
@@ -29,6 +30,7 @@ pub use mover::move_sheet;
 pub use planner::{
     construction_of, dct, plan, plan_by, ring_order, sr, trials, Construction, Round, Trial, ROUNDS,
 };
+pub use row::tick_row;
 pub use sheet::{version, CoreRecord, Grouping, Sheet, TaskRecord, LONGEST_SHEET};
 
 /// The ranges of counts, periods and factors (docs/SHEET.md, section 2).

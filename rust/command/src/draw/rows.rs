@@ -50,7 +50,7 @@ pub enum What {
     Release,
     Finish,
     /// The call, and the number and place of its refusal.
-    Refused(Call, u8, u16),
+    Refused(Call, u8, u64),
     /// A job must have ended, and whether it had not.
     Due {
         missed: bool,

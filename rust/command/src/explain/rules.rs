@@ -279,7 +279,7 @@ mod tests {
 
     /// The numbers that break the rule which the library names.
     #[track_caller]
-    fn found(bytes: &[u8], number: u8, place: u16) -> Fault {
+    fn found(bytes: &[u8], number: u8, place: u64) -> Fault {
         let refusal = check(bytes).unwrap_err();
         assert_eq!((refusal.number(), refusal.place.number()), (number, place));
         let fault = fault(&Fields::new(bytes), refusal).expect("the numbers break the rule");
@@ -319,7 +319,7 @@ mod tests {
             (&GROUPED, 53, Part::Task(4), 5),
             (&GROUPED, 69, Part::Core(1), 3),
         ] {
-            let fault = found(&changed(bytes, &[(offset, 0xA5)]), 6, offset as u16);
+            let fault = found(&changed(bytes, &[(offset, 0xA5)]), 6, offset as u64);
             let expected = Fault::Spare {
                 offset,
                 value: 0xA5,

@@ -288,7 +288,7 @@ fn refused(words: &[&str], form: &str) -> Result<Option<Answer>, String> {
     match words {
         ["refused", refusal, "place", place] => {
             let refusal = number(refusal, 1, 255)? as u8;
-            let place = number(place, 0, 65_535)? as u16;
+            let place = number(place, 0, 65_535)?;
             Ok(Some(Answer::Refused(refusal, place)))
         }
         _ => Err(form.to_owned()),

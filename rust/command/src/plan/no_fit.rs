@@ -122,7 +122,7 @@ mod tests {
                 continue;
             };
             assert_eq!(refusal.word, Word::NoFit);
-            let task = usize::from(refusal.place.number());
+            let task = refusal.place.number() as usize;
             let (numbers, sheet) = before(&jobs, limit, start, task).unwrap();
             assert_eq!(sheet.cores().len(), usize::from(limit));
             assert!(!numbers.contains(&task));
@@ -137,7 +137,7 @@ mod tests {
                 .filter(|number| with.contains(number))
                 .count();
             let refusal = plan(&all, limit, skipped % all.len()).unwrap_err();
-            assert_eq!(with[usize::from(refusal.place.number())], task);
+            assert_eq!(with[refusal.place.number() as usize], task);
             refused += 1;
         }
         assert!(refused > 300, "{refused}");

@@ -76,7 +76,7 @@ fn table(list: &JobList, limit: u8, plans: &[Result<Sheet, Refusal>]) -> Table {
                 vec![start_words, cores, loads(sheet), String::new()]
             }
             Err(refusal) => {
-                let task = usize::from(refusal.place.number());
+                let task = refusal.place.number() as usize;
                 let cores = before(&jobs, limit, start, task);
                 let loads = cores.map_or_else(String::new, |(_, sheet)| loads(&sheet));
                 vec![start_words, "-".to_owned(), loads, named(list, task)]
