@@ -8,6 +8,7 @@ pub mod Gathering
 pub mod PendingWords
 pub mod Outcomes
 pub mod Ticking
+pub mod Tested
 pub mod Logs
 pub mod Schedule
 pub mod Starts

@@ -9,6 +9,7 @@ use Rattle.timing.specs.Calls.{Call, tick, Answer, accepted, served, idle, refu
 use Rattle.timing.specs.Serving.{nth, Foremost}
 use Rattle.dispatcher.specs.declared.Core.{Core}
 use Rattle.dispatcher.specs.declared.Step.{Step}
+use Rattle.dispatcher.specs.declared.TickedCore.{TickedCore}
 use Rattle.dispatcher.specs.declared.Answer.{Answer as CodeAnswer}
 use Rattle.dispatcher.specs.declared.Answer.the-variants.{Accepted, Served, Idle, Refused}
 use Rattle.dispatcher.specs.State.{tasksOf, withTasks, foreign}
@@ -42,14 +43,20 @@ pub record ServesFirst (s : Core) (r : Step) : Type 0 where
   pub first : (j : ℕ) → answerOf (r .answer) ≡ served j → (i : ℕ) × (nth (tasksOf s) i .number ≡ j) × Foremost (tasksOf s) i
   pub idle : answerOf (r .answer) ≡ idle → Each (λ t. t .left ≡ 0) (tasksOf s)
 
--- The tick for a caller that has looked whether the state is foreign: only the count is looked at, which must not be above 64; whatever
--- the fields hold, its answer and the state that it hands back are those of the state's tasks.
-unfoldable pub askTested : Core → Answer
-askTested s = cond (ltb 64 (s .count)) (refused 21 0) (answer tick (tasksOf s))
+-- an answer as a byte: the number of the task that has the tick, or 255 where it is idle; a tick of a state in form has no other answer
+unfoldable pub answerByte : Answer → ℕ
+answerByte accepted = 255
+answerByte (served j) = j
+answerByte idle = 255
+answerByte (refused n p) = 255
 
-unfoldable pub stepTested : Core → Core
-stepTested s = cond (ltb 64 (s .count)) s (withTasks s (next tick (tasksOf s)))
+-- what a tick promises where its answer is a byte
+pub record Ticked (s : Core) (r : TickedCore) : Type 0 where
+  pub byte : r .byte ≡ answerByte (ask tick s)
+  pub core : r .core ≡ step tick s
 
-pub record TestedTick (s : Core) (r : Step) : Type 0 where
-  pub answer : answerOf (r .answer) ≡ askTested s
-  pub core : r .core ≡ stepTested s
+-- The same for a caller that has looked whether the state is foreign: only the count is looked at, which must not be above 64; whatever
+-- the fields hold, the answer and the state that it hands back are those of the state's tasks.
+pub record TestedTick (s : Core) (r : TickedCore) : Type 0 where
+  pub byte : r .byte ≡ cond (ltb 64 (s .count)) 255 (answerByte (answer tick (tasksOf s)))
+  pub core : r .core ≡ cond (ltb 64 (s .count)) s (withTasks s (next tick (tasksOf s)))

@@ -3,10 +3,11 @@ mod form;
 mod words;
 
 ghost use mathlib.Core.Path.{_≡_};
-ghost use mathlib.Core.Bool.{false};
+ghost use mathlib.Core.Bool.{false, cond};
 ghost use Prim.Native.Nat.{_+_, _*_, _<_, _≤_};
 ghost use mathlib.Core.List.{[]};
 ghost use lib.ListN.{length, take};
+ghost use lib.Dec.{ltb};
 ghost use Rattle.sheet.specs.Numbers.{word};
 ghost use Rattle.sheet.specs.Records.{periodAt, budgetAt};
 ghost use Rattle.sheet.specs.Views.{numberOfPosition, positionedIn};
@@ -15,10 +16,10 @@ ghost use Rattle.fit.specs.Ring.{orderBy};
 ghost use Rattle.fit.specs.Cores.{orderOn};
 ghost use Rattle.jobs.specs.Jobs.{jobPeriod, jobBudget};
 ghost use Rattle.fit.specs.Lists.{placeOf};
-ghost use Rattle.timing.specs.Tasks.{named, withJob, older};
+ghost use Rattle.timing.specs.Tasks.{pending, named, withJob, older};
 ghost use Rattle.timing.specs.Calls.{release, finish, tick};
 ghost use Rattle.dispatcher.specs.State.{tasksOf, foreign};
-ghost use Rattle.dispatcher.specs.Operations.{Operation, Unaltered, ServesFirst, TestedTick};
+ghost use Rattle.dispatcher.specs.Operations.{Operation, Unaltered, ServesFirst, TestedTick, Ticked};
 ghost use Rattle.dispatcher.specs.Starts.{freshTask, freshTasks, stateOf, SheetStart, ListStart};
 ghost use Rattle.dispatcher.specs.OnTime.{Timely};
 ghost use Rattle.dispatcher.specs.Steps.{freshBy, spot, changed, refusal, acceptance};
@@ -54,6 +55,13 @@ enum Spot {
 pub struct Step {
     pub answer: Answer,
     pub core: Core,
+}
+
+// The state that a tick hands back, and its answer as a byte: the number of the task that has the tick, or 255 where it is idle.
+#[repr(C)]
+pub struct TickedCore {
+    pub core: Core,
+    pub byte: u8,
 }
 
 // The place of the task with this number, or the number of tasks.
@@ -109,6 +117,20 @@ fn aged(t: Task) -> Task
     } else {
         with_job(t, t.period, t.left)
     }
+}
+
+// A count that is at most 64, else 0.
+fn counted(count: usize) -> usize
+    ensures { λ r. ⌜ (r ≡ cond (ltb 64 count) 0 count) × (r ≤ 64) ⌝ }
+{
+    if 64 < count { 0 } else { count }
+}
+
+// The place of a task if it is pending, else the place that was found before.
+fn sooner(t: Task, i: usize, first: usize) -> usize
+    ensures { λ r. ⌜ r ≡ cond (pending t) i first ⌝ }
+{
+    if 0 < t.left { i } else { first }
 }
 
 // A task whose age is its period, with nothing left.
@@ -361,38 +383,35 @@ impl Core {
             core: next,
         }
     }
-    // A tick for a caller that has tested the form: of the form it looks at the count alone.
-    pub fn tick_tested(self) -> Step
+    // A tick for a caller that has tested the form: of the form it looks at the count alone, and a state of more than 64 tasks stays as it is.
+    // It goes through the tasks from the last to the first, so that the last pending one that it meets is the first by priority.
+    pub fn tick_tested(self) -> TickedCore
         ensures { λ r. ⌜ TestedTick self r ⌝ }
-        ensures in_form { λ r. ⌜ (foreign self ≡ false → Operation tick self r) ⌝ }
+        ensures in_form { λ r. ⌜ (foreign self ≡ false → Ticked self r) ⌝ }
     {
-        let count = self.count;
-        if 64 < count {
-            return refuse(self, Refusal::Foreign, 0);
-        }
+        let count = counted(self.count);
         let mut next = self;
-        let mut marks = [0; 64];
-        let mut i = 0;
-        while i < count {
+        let mut first = count;
+        let mut i = count;
+        while 0 < i {
+            i -= 1;
             let t = next.tasks[i];
-            marks[i] = words::mark(t);
+            first = sooner(t, i, first);
             let later = aged(t);
             next.tasks[i] = later;
-            i += 1;
         }
-        let first = words::first_marked(&marks, count);
         if count <= first {
-            return Step {
-                answer: Answer::Idle,
+            return TickedCore {
                 core: next,
+                byte: 255,
             };
         }
         let t = next.tasks[first];
         let used = with_job(t, t.age, t.left - 1);
         next.tasks[first] = used;
-        Step {
-            answer: Answer::Served(t.number),
+        TickedCore {
             core: next,
+            byte: t.number,
         }
     }
 }

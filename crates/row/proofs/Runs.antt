@@ -19,14 +19,14 @@ use Rattle.timing.specs.Tasks.{pending}
 use Rattle.timing.proofs.Runs.{log-append, run-both}
 use Rattle.dispatcher.specs.declared.Core.{Core}
 use Rattle.dispatcher.specs.State.{tasksOf, foreign}
-use Rattle.dispatcher.specs.Operations.{ask, step}
+use Rattle.dispatcher.specs.Operations.{ask, step, answerByte}
 use Rattle.dispatcher.specs.Starts.{stateOf, sheetAnswer, sheetState}
 use Rattle.dispatcher.specs.OnTime.{Kept}
 use Rattle.dispatcher.proofs.Foreign.{foreign-form}
 use Rattle.dispatcher.proofs.Logs.{ask-form}
 use Rattle.dispatcher.proofs.Starts.{sheet-kept}
-use Rattle.row.specs.Row.{answerByte, Outcome, ticked, turned, rowOutcome, rowStates, written, rowBytes}
-use Rattle.row.specs.OnTime.{coreAt, RowCall, beat, alone, lay, rowNext, rowRun, readByte, heardTick, heard, rowLog, tickCalls, ownCalls, rowCalls, staysAt, AsAlone, RowKept, RowRuns}
+use Rattle.row.specs.Row.{Outcome, ticked, turned, rowOutcome, rowStates, written, rowBytes}
+use Rattle.row.specs.OnTime.{coreAt, RowCall, tickAll, callAt, replace, rowNext, rowRun, readByte, heardTick, heard, rowLog, tickCalls, ownCalls, rowCalls, staysAt, AsAlone, RowKept, RowRuns}
 
 -- element k of a list that another follows, each of which is f of another list's
 map-at : {A B : Type 0} (f : A → B) (l : List A) (r : List B) (k : ℕ) (d : A) (e : B) → k < length l → getD (map f l ++ r) k e ≡ f (getD l k d)
@@ -69,13 +69,13 @@ ticked-form row n k e h = go (ltb n (length row)) (ltb (placeOf foreign row) (le
     go false false z x = place-before (stateOf []) foreign row k (omega (arith, h, ltb-false (placeOf foreign row) (length row) z))
 
 -- A tick of a row: the state and the answer byte at position k are those of a tick of that state by itself.
-pub beat-state : (row : List Core) (k : ℕ) → k < length row → coreAt (rowStates ticked row) k ≡ step tick (coreAt row k)
+pub all-state : (row : List Core) (k : ℕ) → k < length row → coreAt (rowStates ticked row) k ≡ step tick (coreAt row k)
 unfolding rowStates
-beat-state row k h = only-map-at (step tick) row k (stateOf []) h
+all-state row k h = only-map-at (step tick) row k (stateOf []) h
 
-pub beat-byte : (row : List Core) (bytes : List ℕ) (k : ℕ) → k < length row → getD (rowBytes ticked row bytes) k 0 ≡ answerByte (ask tick (coreAt row k))
+pub all-byte : (row : List Core) (bytes : List ℕ) (k : ℕ) → k < length row → getD (rowBytes ticked row bytes) k 0 ≡ answerByte (ask tick (coreAt row k))
 unfolding rowBytes written
-beat-byte row bytes k h = map-at (λ s. answerByte (ask tick s)) row (drop (length row) bytes) k (stateOf []) 0 h
+all-byte row bytes k h = map-at (λ s. answerByte (ask tick s)) row (drop (length row) bytes) k (stateOf []) 0 h
 
 -- what one call on the row is for the core at position k
 record Once (row : List Core) (k : ℕ) (x : RowCall) : Type 0 where
@@ -85,23 +85,23 @@ record Once (row : List Core) (k : ℕ) (x : RowCall) : Type 0 where
 
 once : (row : List Core) (k : ℕ) → k < length row → (x : RowCall) → staysAt k x ≡ true → Once row k x
 unfolding rowNext heard ownCalls staysAt rowStates heardTick tickCalls log run
-once row k h (beat bytes) y = go (rowOutcome row (length bytes)) refl
+once row k h (tickAll bytes) y = go (rowOutcome row (length bytes)) refl
   where
-    go : (o : Outcome) → rowOutcome row (length bytes) ≡ o → Once row k (beat bytes)
+    go : (o : Outcome) → rowOutcome row (length bytes) ≡ o → Once row k (tickAll bytes)
     go ticked e = record {
       same = rw e (length-map row (step tick));
-      log = rw e (ap (λ a. entry tick a ∷ []) (ap readByte (beat-byte row bytes k h) ∙ byte-tells (coreAt row k) (ticked-form row (length bytes) k e h)));
-      state = rw e (beat-state row k h);
+      log = rw e (ap (λ a. entry tick a ∷ []) (ap readByte (all-byte row bytes k h) ∙ byte-tells (coreAt row k) (ticked-form row (length bytes) k e h)));
+      state = rw e (all-state row k h);
     }
     go (turned n p) e = record { same = rw e; log = rw e; state = rw e }
-once row k h (alone m c) y = go (eqb m k) refl
+once row k h (callAt m c) y = go (eqb m k) refl
   where
-    go : (b : Bool) → eqb m k ≡ b → Once row k (alone m c)
+    go : (b : Bool) → eqb m k ≡ b → Once row k (callAt m c)
     go true e =
         let z : m ≡ k = eqb-true m k e in
         record { same = length-set row m _; log = rw e; state = rw (e, z) (getD-set-same row k _ (stateOf []) h) }
     go false e = record { same = length-set row m _; log = rw e; state = rw e (getD-set-other row m k _ (stateOf []) (λ z. eqb-false m k e (sym z))) }
-once row k h (lay m s) y = record { same = length-set row m s; log = refl; state = getD-set-other row m k s (stateOf []) (λ z. go (eqb m k) refl y (sym z)) }
+once row k h (replace m s) y = record { same = length-set row m s; log = refl; state = getD-set-other row m k s (stateOf []) (λ z. go (eqb m k) refl y (sym z)) }
   where
     go : (b : Bool) → eqb m k ≡ b → not b ≡ true → m ≡ k → ⊥
     go true e y z = true≢false (sym y)

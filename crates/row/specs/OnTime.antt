@@ -21,18 +21,18 @@ use Rattle.row.specs.Row.{Outcome, ticked, turned, rowOutcome, rowStates
 abbrev pub coreAt : List Core → ℕ → Core
 coreAt row k = getD row k (stateOf [])
 
--- what may happen to a row: a tick of the whole row with these answer bytes lent, a call on the core at a position by itself, or another
--- state is laid at a position, as when a core is started anew
+-- what may happen to a row: a tick of the whole row with these answer bytes lent, a call on the core at a position by itself, or the state
+-- at a position is replaced by another, as when a core is started anew
 pub data RowCall : Type 0 where
-  beat : List ℕ → RowCall
-  alone : ℕ → Call → RowCall
-  lay : ℕ → Core → RowCall
+  tickAll : List ℕ → RowCall
+  callAt : ℕ → Call → RowCall
+  replace : ℕ → Core → RowCall
 
 -- the states that it leaves
 unfoldable pub rowNext : RowCall → List Core → List Core
-rowNext (beat bytes) row = rowStates (rowOutcome row (length bytes)) row
-rowNext (alone k c) row = set row k (step c (coreAt row k))
-rowNext (lay k s) row = set row k s
+rowNext (tickAll bytes) row = rowStates (rowOutcome row (length bytes)) row
+rowNext (callAt k c) row = set row k (step c (coreAt row k))
+rowNext (replace k s) row = set row k s
 
 unfoldable pub rowRun : List RowCall → List Core → List Core
 rowRun [] row = row
@@ -49,9 +49,9 @@ heardTick (turned n p) b = []
 
 -- what it hears of anything that happens to the row
 unfoldable pub heard : ℕ → RowCall → List Core → List Entry
-heard k (beat bytes) row = heardTick (rowOutcome row (length bytes)) (getD (rowBytes (rowOutcome row (length bytes)) row bytes) k 0)
-heard k (alone m c) row = cond (eqb m k) (entry c (ask c (coreAt row k)) ∷ []) []
-heard k (lay m s) row = []
+heard k (tickAll bytes) row = heardTick (rowOutcome row (length bytes)) (getD (rowBytes (rowOutcome row (length bytes)) row bytes) k 0)
+heard k (callAt m c) row = cond (eqb m k) (entry c (ask c (coreAt row k)) ∷ []) []
+heard k (replace m s) row = []
 
 -- its log over a list of calls on the row
 unfoldable pub rowLog : ℕ → List RowCall → List Core → List Entry
@@ -64,19 +64,19 @@ tickCalls ticked = tick ∷ []
 tickCalls (turned n p) = []
 
 unfoldable pub ownCalls : ℕ → RowCall → List Core → List Call
-ownCalls k (beat bytes) row = tickCalls (rowOutcome row (length bytes))
-ownCalls k (alone m c) row = cond (eqb m k) (c ∷ []) []
-ownCalls k (lay m s) row = []
+ownCalls k (tickAll bytes) row = tickCalls (rowOutcome row (length bytes))
+ownCalls k (callAt m c) row = cond (eqb m k) (c ∷ []) []
+ownCalls k (replace m s) row = []
 
 unfoldable pub rowCalls : ℕ → List RowCall → List Core → List Call
 rowCalls k [] row = []
 rowCalls k (x ∷ xs) row = ownCalls k x row ++ rowCalls k xs (rowNext x row)
 
--- no other state is laid at position k
+-- the state at position k is not replaced
 unfoldable pub staysAt : ℕ → RowCall → Bool
-staysAt k (beat bytes) = true
-staysAt k (alone m c) = true
-staysAt k (lay m s) = not (eqb m k)
+staysAt k (tickAll bytes) = true
+staysAt k (callAt m c) = true
+staysAt k (replace m s) = not (eqb m k)
 
 -- The core at position k of a row over a list of calls on the row: its log and its state are those of the core by itself over its own calls.
 pub record AsAlone (row : List Core) (k : ℕ) (xs : List RowCall) : Type 0 where

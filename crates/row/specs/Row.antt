@@ -6,19 +6,12 @@ use lib.ListN.{length, drop}
 use lib.Dec.{ltb}
 use Rattle.fit.specs.Lists.{placeOf}
 use Rattle.sheet.specs.Refusals.{numberOf}
-use Rattle.timing.specs.Calls.{tick, Answer, accepted, served, idle, refused}
+use Rattle.timing.specs.Calls.{tick}
 use Rattle.dispatcher.specs.declared.Core.{Core}
 use Rattle.dispatcher.specs.State.{foreign}
-use Rattle.dispatcher.specs.Operations.{ask, step}
+use Rattle.dispatcher.specs.Operations.{ask, step, answerByte}
 use Rattle.row.specs.declared.RowAnswer.{RowAnswer}
 use Rattle.row.specs.declared.RowAnswer.the-variants.{Ticked, Refused}
-
--- an answer as a byte: the number of the task that has the tick, or 255 where it is idle; a tick of a state in form has no other answer
-unfoldable pub answerByte : Answer → ℕ
-answerByte accepted = 255
-answerByte (served j) = j
-answerByte idle = 255
-answerByte (refused n p) = 255
 
 -- what a call on a row answers: every state was given its tick, or the call is refused with a number and a place and none was
 pub data Outcome : Type 0 where

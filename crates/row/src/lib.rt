@@ -6,10 +6,9 @@ ghost use lib.ListN.{length};
 ghost use Rattle.fit.specs.Lists.{placeOf};
 ghost use Rattle.timing.specs.Calls.{tick};
 ghost use Rattle.dispatcher.specs.State.{foreign};
-ghost use Rattle.dispatcher.specs.Operations.{answerOf, step};
-ghost use Rattle.row.specs.Row.{answerByte, written, outcomeOf, rowOutcome, rowStates, rowBytes};
+ghost use Rattle.dispatcher.specs.Operations.{step};
+ghost use Rattle.row.specs.Row.{written, outcomeOf, rowOutcome, rowStates, rowBytes};
 ghost use Rattle.row.specs.OnTime.{RowRuns};
-use dispatcher::Answer;
 use dispatcher::Core;
 use sheet::Refusal;
 
@@ -17,18 +16,6 @@ use sheet::Refusal;
 pub enum RowAnswer {
     Ticked,
     Refused { word: Refusal, place: usize },
-}
-
-// The answer of a tick as a byte.
-fn byte_of(answer: Answer) -> u8
-    ensures { λ r. ⌜ r ≡ answerByte (answerOf answer) ⌝ }
-{
-    match answer {
-        Answer::Served(number) => number,
-        Answer::Idle => 255,
-        Answer::Accepted => 255,
-        Answer::Refused { word: _, place: _ } => 255,
-    }
 }
 
 // The position of the first foreign state, or the length of the row.
@@ -57,7 +44,7 @@ fn tick_each(row: &mut [Core], answers: &mut [u8])
     while i < n {
         let given = row[i].tick_tested();
         row[i] = given.core;
-        answers[i] = byte_of(given.answer);
+        answers[i] = given.byte;
         i += 1;
     }
 }

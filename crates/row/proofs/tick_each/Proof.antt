@@ -27,7 +27,7 @@ use denote.RattleType.{owns}
 use denote.Laws.{Is, shows}
 use denote.Memory as memory
 use denote.Memory.{pointee}
-use denote.Plain.{uint-makes, uint-lawful, uint-vals, uint-tells}
+use denote.Plain.{uint-makes, uint-vals, uint-tells}
 use denote.Builtin.{u8}
 use denote.Ref.{RefT}
 use denote.Slice.{sliceTy, sliceVal, MutSlice, Room, heres, codedHoleys, at-slice, slice-vals, mut-slice-tells}
@@ -37,7 +37,6 @@ use denote.Index.{row, place-is, place-byte, elem-out, elem-put, opens-slice, cl
 use denote.Signature.{plain}
 use denote.Steps.{only, nothing, owned, facts, heard}
 use denote.Struct.Laws as struct
-use denote.Enum.Laws as enum
 use denote.Triple.Call.{calls-at}
 use denote.Triple.Clauses.{ensured, lasts}
 use denote.Triple.Entry.{Vals, onEntry}
@@ -49,29 +48,22 @@ use Rattle.fit.specs.Lists.{placeOf}
 use Rattle.fit.proofs.Finds.{place-before}
 use Rattle.fit.proofs.Overwriting.{over, over-length, over-at, over-turn, over-end, self-turn, self-end}
 use Rattle.timing.specs.Calls.{tick}
-use Rattle.dispatcher.specs.declared.Answer.{Answer}
 use Rattle.dispatcher.specs.declared.Core.{Core}
-use Rattle.dispatcher.specs.declared.Step.{Step}
-use Rattle.dispatcher.specs.Operations.{answerOf, ask, step, TestedTick, Operation}
+use Rattle.dispatcher.specs.declared.TickedCore.{TickedCore}
+use Rattle.dispatcher.specs.Operations.{ask, step, answerByte, Ticked, TestedTick}
 use Rattle.dispatcher.specs.Starts.{stateOf}
 use Rattle.dispatcher.specs.State.{foreign}
-use Rattle.row.specs.Row.{answerByte, written}
+use Rattle.row.specs.Row.{written}
 use Rattle.row.proofs.Places.{in-reach, next-fits, Place, Nearer, nearer-wf, first-place, next-place}
 use Rattle.row.proofs.Walks.{turnEnds, tests, says-both}
-use Rattle.dispatcher.proofs.Step as given
-use Rattle.dispatcher.proofs.Step.Laws as given-laws
-use Rattle.dispatcher.proofs.Answer as answer
-use Rattle.dispatcher.proofs.Answer.Laws as answer-laws
+use Rattle.dispatcher.proofs.TickedCore as given
+use Rattle.dispatcher.proofs.TickedCore.Laws as given-laws
 use Rattle.dispatcher.proofs.Core as core
 use Rattle.dispatcher.proofs.Core.Laws as core-laws
 use Rattle.dispatcher.proofs.Core.tick_tested as ticked
 use Rattle.dispatcher.proofs.Core.tick_tested.Symbol as ticked-def
 use Rattle.dispatcher.proofs.Core.tick_tested.Symbol.{name as #ticked}
 use Rattle.dispatcher.proofs.Core.tick_tested.Met as ticked-thm
-use Rattle.row.proofs.byte_of as byte
-use Rattle.row.proofs.byte_of.Symbol as byte-def
-use Rattle.row.proofs.byte_of.Symbol.{name as #byte}
-use Rattle.row.proofs.byte_of.Met as byte-thm
 use Rattle.row.proofs.tick_each.Key.{name as #tick-each}
 use Rattle.row.proofs.tick_each as f
 use Rattle.row.proofs.tick_each.Statement as stated
@@ -101,45 +93,30 @@ written-is ys bs ws i e is = is ∙ over-end heardOf ys bs i e
 abbrev rest : Body
 rest = seq (assign (place 0 []) (rvOpd opdUnit)) return
 
--- the contracts of `tick_tested` and `byte_of`
-abbrev Ticked : {M : Type 1} (𝓤 : URA M) (H : Heap 𝓤) (A : Atoms 𝓤) (mem : Memory → SProp 𝓤) (run : Routine → Fun 𝓤) → Contract 𝓤
-Ticked 𝓤 H A mem run = tripleOf 𝓤 H A ticked.signature (ticked.spec 𝓤 H A mem run)
-
-abbrev Byte : {M : Type 1} (𝓤 : URA M) (H : Heap 𝓤) (A : Atoms 𝓤) (mem : Memory → SProp 𝓤) (run : Routine → Fun 𝓤) → Contract 𝓤
-Byte 𝓤 H A mem run = tripleOf 𝓤 H A byte.signature (byte.spec 𝓤 H A mem run)
+-- the contract of `tick_tested`
+abbrev Ticks : {M : Type 1} (𝓤 : URA M) (H : Heap 𝓤) (A : Atoms 𝓤) (mem : Memory → SProp 𝓤) (run : Routine → Fun 𝓤) → Contract 𝓤
+Ticks 𝓤 H A mem run = tripleOf 𝓤 H A ticked.signature (ticked.spec 𝓤 H A mem run)
 
 module _ {M : Type 1} (𝓤 : URA M) (H : Heap 𝓤) (A : Atoms 𝓤) (W : Given 𝓤 H A) (mem : Memory → SProp 𝓤) (run : Routine → Fun 𝓤) where
-  -- the values of an answer, a state and both
-  abbrev word : Answer → Val
-  word a = enum.val answer.the-type answer-laws.the-laws a
-
+  -- the values of a state, and of one with its answer byte
   abbrev stored : Core → Val
   stored s = struct.val core.the-type core-laws.the-laws s
 
-  abbrev got : Step → Val
+  abbrev got : TickedCore → Val
   got r = struct.val given.the-type given-laws.the-laws r
 
-  abbrev to-byte : Answer → Byte 𝓤 H A mem run .Ghost
-  to-byte a = ((tt, tt, tt, (a, tt), (word a ∷ [], tt)), tt)
+  abbrev to-ticks : Core → Ticks 𝓤 H A mem run .Ghost
+  to-ticks s = ((tt, tt, tt, (s, tt), (stored s ∷ [], tt)), tt)
 
-  goes-byte : (a : Answer) → ent 𝓤 (sem 𝓤 H A (answer.the-row .own a (word a ∷ []))) (Byte 𝓤 H A mem run .pre (to-byte a))
-  goes-byte a = qed W (‵ (answer.the-row .own a (word a ∷ [])) ∷ []) ∵ nothing ! $ move ! (1 ∷ 0 ∷ []) $ join ! $ nothing ! $ join ! $ frame ! $ done !
-
-  said-byte : (a : Answer) (k : ℕ) → ent 𝓤 (ensured 𝓤 H A byte.ended (byte.clauses 𝓤 H A mem run) tt (a, tt) tt k) (fact 𝓤 (k ≡ answerByte (answerOf a)))
-  said-byte a k = exE 𝓤 _ (λ ws. snd∗ 𝓤 (sem 𝓤 H A (lasts byte.ended tt (a, tt) ws)) (fact 𝓤 (k ≡ answerByte (answerOf a))))
-
-  abbrev to-ticked : Core → Ticked 𝓤 H A mem run .Ghost
-  to-ticked s = ((tt, tt, tt, (s, tt), (stored s ∷ [], tt)), tt)
-
-  goes-ticked : (s : Core) → ent 𝓤 (sem 𝓤 H A (core.the-row .own s (stored s ∷ []))) (Ticked 𝓤 H A mem run .pre (to-ticked s))
-  goes-ticked s = qed W (‵ (core.the-row .own s (stored s ∷ [])) ∷ []) ∵ nothing ! $ move ! (1 ∷ 0 ∷ []) $ join ! $ nothing ! $ join ! $ frame ! $ done !
+  goes-ticks : (s : Core) → ent 𝓤 (sem 𝓤 H A (core.the-row .own s (stored s ∷ []))) (Ticks 𝓤 H A mem run .pre (to-ticks s))
+  goes-ticks s = qed W (‵ (core.the-row .own s (stored s ∷ [])) ∷ []) ∵ nothing ! $ move ! (1 ∷ 0 ∷ []) $ join ! $ nothing ! $ join ! $ frame ! $ done !
 
   -- of its clauses, the one about a state in form
-  abbrev InForm : Core → Step → Type 0
-  InForm s r = foreign s ≡ false → Operation tick s r
+  abbrev InForm : Core → TickedCore → Type 0
+  InForm s r = foreign s ≡ false → Ticked s r
 
-  said-ticked : (s : Core) (r : Step) → ent 𝓤 (ensured 𝓤 H A ticked.ended (ticked.clauses 𝓤 H A mem run) tt (s, tt) tt r) (fact 𝓤 (InForm s r))
-  said-ticked s r = exE 𝓤 _ (λ ws. via 𝓤 (sep 𝓤 (fact 𝓤 (TestedTick s r)) (fact 𝓤 (InForm s r))) (snd∗ 𝓤 (sem 𝓤 H A (lasts ticked.ended tt (s, tt) ws)) (sep 𝓤 (fact 𝓤 (TestedTick s r)) (fact 𝓤 (InForm s r)))) (snd∗ 𝓤 (fact 𝓤 (TestedTick s r)) (fact 𝓤 (InForm s r))))
+  said-ticks : (s : Core) (r : TickedCore) → ent 𝓤 (ensured 𝓤 H A ticked.ended (ticked.clauses 𝓤 H A mem run) tt (s, tt) tt r) (fact 𝓤 (InForm s r))
+  said-ticks s r = exE 𝓤 _ (λ ws. via 𝓤 (sep 𝓤 (fact 𝓤 (TestedTick s r)) (fact 𝓤 (InForm s r))) (snd∗ 𝓤 (sem 𝓤 H A (lasts ticked.ended tt (s, tt) ws)) (sep 𝓤 (fact 𝓤 (TestedTick s r)) (fact 𝓤 (InForm s r)))) (snd∗ 𝓤 (fact 𝓤 (TestedTick s r)) (fact 𝓤 (InForm s r))))
 
   module _ (κ₁ κ₂ : Lft) (q₁ q₂ : Share) (b₁ o₁ b₂ o₂ : ℕ) (γ₁ γ₂ : GName) (ys : List Core) (bs : List ℕ) where
     abbrev n : ℕ
@@ -184,7 +161,7 @@ module _ {M : Type 1} (𝓤 : URA M) (H : Heap 𝓤) (A : Atoms 𝓤) (W : Given
         fjoin ! $ pureI ! (at-slice core.the-row (states zs) (at .0)) (tt, (tt, tt)) (ap (λ (m : ℕ). sliceVal (b₁, o₁) m ∷ []) (sym e₁), subst (Room core.the-row) (sym e₁) room₁) $ fjoin ! $ fjoin ! $ frame ! $
         feqI ! (List Val) (vunit ∷ []) (vunit ∷ []) refl $ done !
 
-    module _ (𝓣 : Tables 𝓤 H) (ticks : Triple 𝓤 (𝓣 .C #ticked) (Ticked 𝓤 H A mem run)) (gives : Triple 𝓤 (𝓣 .C #byte) (Byte 𝓤 H A mem run)) (room₁ : Room core.the-row n) (room₂ : Room u8 (length bs)) (asked : (n ≤ length bs) × (n ≤ placeOf foreign ys)) (l₀ l₁ l₂ l₃ l₄ l₅ l₆ l₇ l₈ l₉ l₁₀ l₁₁ l₁₂ : ℕ) where
+    module _ (𝓣 : Tables 𝓤 H) (ticks : Triple 𝓤 (𝓣 .C #ticked) (Ticks 𝓤 H A mem run)) (room₁ : Room core.the-row n) (room₂ : Room u8 (length bs)) (asked : (n ≤ length bs) × (n ≤ placeOf foreign ys)) (l₀ l₁ l₂ l₃ l₄ l₅ l₆ l₇ l₈ l₉ l₁₀ l₁₁ : ℕ) where
       abbrev slice₁ : Ty
       slice₁ = sliceTy (tyRef (named 0) mut (pointee (core.the-row .written)))
 
@@ -192,20 +169,20 @@ module _ {M : Type 1} (𝓤 : URA M) (H : Heap 𝓤) (A : Atoms 𝓤) (W : Given
       slice₂ = sliceTy (tyRef (named 1) mut (tyInt w8))
 
       abbrev E : Env 𝓤 H
-      E = (tyUnit, l₀) ∷ (slice₁, l₁) ∷ (slice₂, l₂) ∷ (tyInt w64, l₃) ∷ (tyInt w64, l₄) ∷ (given-laws.mir, l₅) ∷ (tyBool, l₆) ∷ (tyInt w64, l₇) ∷ (tyPtr, l₈) ∷ (core-laws.mir, l₉) ∷ (tyPtr, l₁₀) ∷ (tyInt w8, l₁₁) ∷ (tyPtr, l₁₂) ∷ []
+      E = (tyUnit, l₀) ∷ (slice₁, l₁) ∷ (slice₂, l₂) ∷ (tyInt w64, l₃) ∷ (tyInt w64, l₄) ∷ (given-laws.mir, l₅) ∷ (tyBool, l₆) ∷ (tyInt w64, l₇) ∷ (tyPtr, l₈) ∷ (core-laws.mir, l₉) ∷ (tyPtr, l₁₀) ∷ (tyPtr, l₁₁) ∷ []
 
       -- what no turn touches: the open borrows, and that each local dies
       abbrev Frame : List (Item 𝓤)
       Frame = ‵ (fobor κ₁ q₁ (Held core.the-row n b₁ o₁ γ₁)) ∷ ‵ (fobs γ₁ (codedHoleys core.the-row .code (heres core.the-row ys))) ∷ ‵ (fauth γ₁ (codedHoleys core.the-row .code (heres core.the-row ys)))
           ∷ ‵ (fobor κ₂ q₂ (Held u8 (length bs) b₂ o₂ γ₂)) ∷ ‵ (fobs γ₂ (codedHoleys u8 .code (heres u8 bs))) ∷ ‵ (fauth γ₂ (codedHoleys u8 .code (heres u8 bs)))
           ∷ ‵ (fdies tyUnit l₀) ∷ ‵ (fdies slice₁ l₁) ∷ ‵ (fdies slice₂ l₂) ∷ ‵ (fdies (tyInt w64) l₃) ∷ ‵ (fdies (tyInt w64) l₄) ∷ ‵ (fdies given-laws.mir l₅) ∷ ‵ (fdies tyBool l₆) ∷ ‵ (fdies (tyInt w64) l₇) ∷ ‵ (fdies tyPtr l₈)
-          ∷ ‵ (fdies core-laws.mir l₉) ∷ ‵ (fdies tyPtr l₁₀) ∷ ‵ (fdies (tyInt w8) l₁₁) ∷ ‵ (fdies tyPtr l₁₂) ∷ []
+          ∷ ‵ (fdies core-laws.mir l₉) ∷ ‵ (fdies tyPtr l₁₀) ∷ ‵ (fdies tyPtr l₁₁) ∷ []
 
       -- the loop's invariant: both rows with i overwritten, i, n, the slices, and room for the other locals
       abbrev I : Place n → List (Item 𝓤)
       I t = ‵ (row core.the-row fullShare (statesAt (t .i)) b₁ o₁) ∷ ‵ (row u8 fullShare (bytesAt (t .i)) b₂ o₂)
           ∷ ‵ (fat fullShare (tyInt w64) l₄ 0 (vint w64 (t .i))) ∷ ‵ (fat fullShare (tyInt w64) l₃ 0 (vint w64 n)) ∷ ‵ (fat fullShare slice₁ l₁ 0 (sliceVal (b₁, o₁) n)) ∷ ‵ (fat fullShare slice₂ l₂ 0 (sliceVal (b₂, o₂) (length bs))) ∷ ‵ (froom tyUnit l₀ 0)
-          ∷ ‵ (froom given-laws.mir l₅ 0) ∷ ‵ (froom tyBool l₆ 0) ∷ ‵ (froom (tyInt w64) l₇ 0) ∷ ‵ (froom tyPtr l₈ 0) ∷ ‵ (froom core-laws.mir l₉ 0) ∷ ‵ (froom tyPtr l₁₀ 0) ∷ ‵ (froom (tyInt w8) l₁₁ 0) ∷ ‵ (froom tyPtr l₁₂ 0) ∷ Frame
+          ∷ ‵ (froom given-laws.mir l₅ 0) ∷ ‵ (froom tyBool l₆ 0) ∷ ‵ (froom (tyInt w64) l₇ 0) ∷ ‵ (froom tyPtr l₈ 0) ∷ ‵ (froom core-laws.mir l₉ 0) ∷ ‵ (froom tyPtr l₁₀ 0) ∷ ‵ (froom tyPtr l₁₁ 0) ∷ Frame
 
       many₁ : (t : Place n) → length (statesAt (t .i)) ≡ n
       many₁ t = over-length (step tick) ys ys (t .i) (t .within) (t .within)
@@ -216,13 +193,13 @@ module _ {M : Type 1} (𝓤 : URA M) (H : Heap 𝓤) (A : Atoms 𝓤) (W : Given
       -- all are overwritten: the slices are closed, and the function returns
       leaves : (t : Place n) → t .i ≡ n → Sq W (I t) (runs (𝓣 .C) (𝓣 .Λ) E rest (atRet E Post))
       leaves t e =
-          move ! (0 ∷ 15 ∷ 16 ∷ 17 ∷ []) $ closes-slice ! tt core.the-row ys (statesAt (t .i)) (many₁ t) b₁ o₁ $
-          move ! (3 ∷ 17 ∷ 18 ∷ 19 ∷ []) $ closes-slice ! tt u8 bs (bytesAt (t .i)) (many₂ t) b₂ o₂ $
-          -- [both slices, closed; _4; _3; _1; _2; _0; _5 … _12; that each local dies]
+          move ! (0 ∷ 14 ∷ 15 ∷ 16 ∷ []) $ closes-slice ! tt core.the-row ys (statesAt (t .i)) (many₁ t) b₁ o₁ $
+          move ! (3 ∷ 16 ∷ 17 ∷ 18 ∷ []) $ closes-slice ! tt u8 bs (bytesAt (t .i)) (many₂ t) b₂ o₂ $
+          -- [both slices, closed; _4; _3; _1; _2; _0; _5 … _11; that each local dies]
           assigns ! (of-opd ! (unit-lit !)) (from ! (stop !)) (init ! 10 refl (tt, tt)) $
           returns ! (look ! 10 refl) $ forget ! 6 refl $ forget ! 7 refl $ forget ! 8 refl $ forget ! 9 refl $ forget ! 10 refl $
-          move ! (10 ∷ 19 ∷ []) $ free1 ! $ move ! (8 ∷ 18 ∷ []) $ free1 ! $ move ! (8 ∷ 17 ∷ []) $ free1 ! $ move ! (7 ∷ 16 ∷ []) $ free1 ! $ move ! (6 ∷ 15 ∷ []) $ free1 ! $
-          move ! (6 ∷ 14 ∷ []) $ free1 ! $ move ! (6 ∷ 13 ∷ []) $ free1 ! $ move ! (6 ∷ 12 ∷ []) $ free1 ! $ move ! (6 ∷ 11 ∷ []) $ free1 ! $ move ! (6 ∷ 10 ∷ []) $ free1 ! $ move ! (6 ∷ 9 ∷ []) $ free1 ! $ move ! (6 ∷ 8 ∷ []) $ free1 ! $ move ! (6 ∷ 7 ∷ []) $ free1 ! $ free0 ! $
+          move ! (10 ∷ 18 ∷ []) $ free1 ! $ move ! (8 ∷ 17 ∷ []) $ free1 ! $ move ! (8 ∷ 16 ∷ []) $ free1 ! $ move ! (7 ∷ 15 ∷ []) $ free1 ! $ move ! (6 ∷ 14 ∷ []) $ free1 ! $ move ! (6 ∷ 13 ∷ []) $ free1 ! $
+          move ! (6 ∷ 12 ∷ []) $ free1 ! $ move ! (6 ∷ 11 ∷ []) $ free1 ! $ move ! (6 ∷ 10 ∷ []) $ free1 ! $ move ! (6 ∷ 9 ∷ []) $ free1 ! $ move ! (6 ∷ 8 ∷ []) $ free1 ! $ move ! (6 ∷ 7 ∷ []) $ free1 ! $ free0 ! $
           by ! (exits (statesAt (t .i)) (bytesAt (t .i)) (self-end (step tick) ys (t .i) e) (written-is ys bs _ (t .i) e refl) (many₁ t) (many₂ t) room₁ room₂)
 
       abbrev Again : Place n → SProp 𝓤
@@ -236,7 +213,7 @@ module _ {M : Type 1} (𝓤 : URA M) (H : Heap 𝓤) (A : Atoms 𝓤) (W : Given
       turn : (t : Place n) → Sq W (I t) (runs (𝓣 .C) (𝓣 .Λ) E pieces.turn-1 (turnEnds (𝓣 .C) (𝓣 .Λ) E (Again t) rest Post))
       unfolding afterTurn
       turn t =
-          -- [the states; the bytes; _4; _3; _1; _2; _0; _5 … _12; …]
+          -- [the states; the bytes; _4; _3; _1; _2; _0; _5 … _11; …]
           assigns ! (bin ! (load ! (from ! (stop !)) (look ! 2 refl)) (load ! (from ! (stop !)) (look ! 3 refl)) tt) (from ! (stop !)) (init ! 8 refl (tt, tt)) $
           tests ! (Again t) rest Post (load ! (from ! (stop !)) (look ! 8 refl)) (λ more.
           let l : t .i < n = ltb→lt (t .i) n more in
@@ -250,66 +227,58 @@ module _ {M : Type 1} (𝓤 : URA M) (H : Heap 𝓤) (A : Atoms 𝓤) (W : Given
           elem-out ! core.the-row (Is core.the-row) (shows 𝓤 H A core.the-row) (struct.vals core.the-type core-laws.the-laws) (struct.tells core.the-type core-laws.the-laws) fullShare (statesAt (t .i)) (t .i) none b₁ o₁ l′ (λ g. move ! (1 ∷ []) $ drop ! $
           -- [the state; the others; the bytes; _4; …]: its tick
           assigns ! (of-opd ! (load ! (from ! (hop ! (look ! 11 refl) (stop !))) (look-raw ! 0 refl))) (from ! (stop !)) (init ! 12 refl (struct.lawful core.the-type core-laws.the-laws 𝓤 H A W .typed s _ g .0)) $
-          owned ! core.the-row (Is core.the-row) (struct.makes core.the-type core-laws.the-plain 𝓤 H A) s (stored s ∷ []) g $ use1 W (raw (Ticked 𝓤 H A mem run .pre (to-ticked s))) (goes-ticked s) $
-          calls-at ! (fmOf 𝓤 H (W .laws) 𝓣) (Ticked 𝓤 H A mem run) ticks (to-ticked s) (and-then ! (load ! (from ! (stop !)) (look ! 13 refl)) (no-more !)) (λ v.
-          use1 W (later (some (λ (r : Step). (‵ ftrue ⊛ ‵ (given.the-row .own r (v ∷ []))) ⊛ raw (ensured 𝓤 H A ticked.ended (ticked.clauses 𝓤 H A mem run) tt (s, tt) tt r)))) (id⊢ 𝓤 _) $ await ! tt $ pick ! (λ r.
-          split ! $ move ! (1 ∷ []) $ use1 W (raw (fact 𝓤 (InForm s r))) (said-ticked s r) $ heard ! (InForm s r) (λ promised. split ! $ drop ! $
+          owned ! core.the-row (Is core.the-row) (struct.makes core.the-type core-laws.the-plain 𝓤 H A) s (stored s ∷ []) g $ use1 W (raw (Ticks 𝓤 H A mem run .pre (to-ticks s))) (goes-ticks s) $
+          calls-at ! (fmOf 𝓤 H (W .laws) 𝓣) (Ticks 𝓤 H A mem run) ticks (to-ticks s) (and-then ! (load ! (from ! (stop !)) (look ! 13 refl)) (no-more !)) (λ v.
+          use1 W (later (some (λ (r : TickedCore). (‵ ftrue ⊛ ‵ (given.the-row .own r (v ∷ []))) ⊛ raw (ensured 𝓤 H A ticked.ended (ticked.clauses 𝓤 H A mem run) tt (s, tt) tt r)))) (id⊢ 𝓤 _) $ await ! tt $ pick ! (λ r.
+          split ! $ move ! (1 ∷ []) $ use1 W (raw (fact 𝓤 (InForm s r))) (said-ticks s r) $ heard ! (InForm s r) (λ promised. split ! $ drop ! $
           facts ! given.the-row (Is given.the-row) (shows 𝓤 H A given.the-row) r (v ∷ []) (λ is.
-          let o : Operation tick s r = promised (calm t l) in
+          let o : Ticked s r = promised (calm t l) in
           land ! (from ! (stop !)) (init ! 8 refl (struct.lawful given.the-type given-laws.the-laws 𝓤 H A W .typed r _ is .0)) $
           rewrite ! 8 (λ (u : Val). ‵ (fat fullShare given-laws.mir l₅ 0 u)) (ap only (struct.tells given.the-type given-laws.the-laws r _ is)) refl $
           let is′ : Is given.the-row r (got r ∷ []) = subst (Is given.the-row r) (struct.tells given.the-type given-laws.the-laws r _ is) is in
-          let is₀ : Is answer.the-row (r .answer) (word (r .answer) ∷ []) = struct.owed given.the-type given-laws.the-laws r _ is′ .0 in
-          let is₁ : Is core.the-row (r .core) (stored (r .core) ∷ []) = struct.owed given.the-type given-laws.the-laws r _ is′ .1 .0 in
+          let is₀ : Is core.the-row (r .core) (stored (r .core) ∷ []) = struct.owed given.the-type given-laws.the-laws r _ is′ .0 in
+          let is₁ : Is u8 (r .byte) (vint w8 (r .byte) ∷ []) = struct.owed given.the-type given-laws.the-laws r _ is′ .1 .0 in
           -- the next state is stored
           assigns ! (bin ! (load ! (from ! (stop !)) (look ! 3 refl)) (lit ! tt) (record { fits = in-reach size (t .i) n l (room₁ .1) })) (from ! (stop !)) (store ! 10 refl (tt, record { fits = in-reach size (t .i) n l (room₁ .1) })) $
           assigns ! (bin ! (load ! (from ! (fld ! refl (stop !))) (look-in ! 5 (sub ! 0 refl (whole !)))) (load ! (from ! (stop !)) (look ! 10 refl)) tt) (from ! (stop !)) (init ! 13 refl (tt, tt)) $
           rewrite ! 13 (λ (k : ℕ). ‵ (fat fullShare tyPtr l₁₀ 0 (vptr b₁ k))) (sym (place-is size o₁ (t .i))) refl $
-          assigns ! (of-opd ! (load ! (from ! (fld ! refl (stop !))) (look-in ! 8 (sub ! 1 refl (whole !))))) (from ! (hop ! (look ! 13 refl) (stop !))) (store-raw ! 0 refl (struct.lawful core.the-type core-laws.the-laws 𝓤 H A W .typed (r .core) _ is₁ .0)) $
-          owned ! core.the-row (Is core.the-row) (struct.makes core.the-type core-laws.the-plain 𝓤 H A) (r .core) (stored (r .core) ∷ []) is₁ $ move ! (1 ∷ 0 ∷ []) $ elem-put ! core.the-row fullShare (statesAt (t .i)) (t .i) (r .core) (stored (r .core) ∷ []) b₁ o₁ l′ $
+          assigns ! (of-opd ! (load ! (from ! (fld ! refl (stop !))) (look-in ! 8 (sub ! 0 refl (whole !))))) (from ! (hop ! (look ! 13 refl) (stop !))) (store-raw ! 0 refl (struct.lawful core.the-type core-laws.the-laws 𝓤 H A W .typed (r .core) _ is₀ .0)) $
+          owned ! core.the-row (Is core.the-row) (struct.makes core.the-type core-laws.the-plain 𝓤 H A) (r .core) (stored (r .core) ∷ []) is₀ $ move ! (1 ∷ 0 ∷ []) $ elem-put ! core.the-row fullShare (statesAt (t .i)) (t .i) (r .core) (stored (r .core) ∷ []) b₁ o₁ l′ $
           rewrite ! 0 (λ (zs : List Core). ‵ (row core.the-row fullShare zs b₁ o₁)) (ap (λ (u : Core). set (statesAt (t .i)) (t .i) u) (o .core) ∙ self-turn (step tick) ys (t .i) none l) refl $
-          -- [the states; the bytes; _4; _3; _1; _2; _0; _5 … _12; …]: the answer as a byte
-          owned ! answer.the-row (Is answer.the-row) (enum.makes answer.the-type answer-laws.the-plain 𝓤 H A) (r .answer) (word (r .answer) ∷ []) is₀ $ use1 W (raw (Byte 𝓤 H A mem run .pre (to-byte (r .answer)))) (goes-byte (r .answer)) $
-          calls-at ! (fmOf 𝓤 H (W .laws) 𝓣) (Byte 𝓤 H A mem run) gives (to-byte (r .answer)) (and-then ! (load ! (from ! (fld ! refl (stop !))) (look-in ! 8 (sub ! 0 refl (whole !)))) (no-more !)) (λ w.
-          use1 W (later (some (λ (k : ℕ). (‵ ftrue ⊛ ‵ (u8 .own k (w ∷ []))) ⊛ raw (ensured 𝓤 H A byte.ended (byte.clauses 𝓤 H A mem run) tt (r .answer, tt) tt k)))) (id⊢ 𝓤 _) $ await ! tt $ pick ! (λ k.
-          split ! $ move ! (1 ∷ []) $ use1 W (raw (fact 𝓤 (k ≡ answerByte (answerOf (r .answer))))) (said-byte (r .answer) k) $ heard ! (k ≡ answerByte (answerOf (r .answer))) (λ e. split ! $ drop ! $ facts ! u8 (Is u8) (shows 𝓤 H A u8) k (w ∷ []) (λ is₂.
-          let told : k ≡ heardOf s = e ∙ ap answerByte (o .answer) in
-          let fits : heardOf s < 256 = subst (λ (u : ℕ). u < 256) told (is₂ .1) in
-          land ! (from ! (stop !)) (init ! 13 refl (uint-lawful 𝓤 H A W w8 .typed k _ is₂ .0)) $ rewrite ! 13 (λ (u : Val). ‵ (fat fullShare (tyInt w8) l₁₁ 0 u)) (ap only (is₂ .0) ∙ ap (vint w8) told) refl $
-          -- it is stored
-          assigns ! (bin ! (load ! (from ! (fld ! refl (stop !))) (look-in ! 5 (sub ! 0 refl (whole !)))) (load ! (from ! (stop !)) (look ! 2 refl)) tt) (from ! (stop !)) (init ! 14 refl (tt, tt)) $
-          rewrite ! 14 (λ (k : ℕ). ‵ (fat fullShare tyPtr l₁₂ 0 (vptr b₂ k))) (sym (place-byte o₂ (t .i))) refl $
+          -- [the states; the bytes; _4; _3; _1; _2; _0; _5 … _11; …]: the answer byte is stored
+          assigns ! (bin ! (load ! (from ! (fld ! refl (stop !))) (look-in ! 5 (sub ! 0 refl (whole !)))) (load ! (from ! (stop !)) (look ! 2 refl)) tt) (from ! (stop !)) (init ! 13 refl (tt, tt)) $
+          rewrite ! 13 (λ (k : ℕ). ‵ (fat fullShare tyPtr l₁₁ 0 (vptr b₂ k))) (sym (place-byte o₂ (t .i))) refl $
           move ! (1 ∷ []) $ elem-out ! u8 (Is u8) (shows 𝓤 H A u8) (uint-vals w8) (uint-tells w8) fullShare (bytesAt (t .i)) (t .i) 0 b₂ o₂ m′ (λ _. move ! (1 ∷ []) $ drop ! $
-          assigns ! (of-opd ! (load ! (from ! (stop !)) (look ! 14 refl))) (from ! (hop ! (look ! 15 refl) (stop !))) (store ! 0 refl (tt, record { fits = fits })) $
-          owned ! u8 (Is u8) (uint-makes 𝓤 H A W w8) (heardOf s) (vint w8 (heardOf s) ∷ []) (refl, fits) $ move ! (1 ∷ 0 ∷ []) $ elem-put ! u8 fullShare (bytesAt (t .i)) (t .i) (heardOf s) (vint w8 (heardOf s) ∷ []) b₂ o₂ m′ $
-          rewrite ! 0 (λ (ws : List ℕ). ‵ (row u8 fullShare ws b₂ o₂)) (ap (λ (u : Core). set (bytesAt (t .i)) (t .i) (heardOf u)) (over-at (step tick) ys ys (t .i) none l l) ∙ over-turn heardOf ys bs (t .i) none l m) refl $ move ! (1 ∷ 0 ∷ []) $
+          assigns ! (of-opd ! (load ! (from ! (fld ! refl (stop !))) (look-in ! 8 (sub ! 1 refl (whole !))))) (from ! (hop ! (look ! 14 refl) (stop !))) (store ! 0 refl (tt, record { fits = is₁ .1 })) $
+          owned ! u8 (Is u8) (uint-makes 𝓤 H A W w8) (r .byte) (vint w8 (r .byte) ∷ []) is₁ $ move ! (1 ∷ 0 ∷ []) $ elem-put ! u8 fullShare (bytesAt (t .i)) (t .i) (r .byte) (vint w8 (r .byte) ∷ []) b₂ o₂ m′ $
+          rewrite ! 0 (λ (ws : List ℕ). ‵ (row u8 fullShare ws b₂ o₂)) (ap (λ (u : ℕ). set (bytesAt (t .i)) (t .i) u) (o .byte) ∙ ap (λ (u : Core). set (bytesAt (t .i)) (t .i) (heardOf u)) (over-at (step tick) ys ys (t .i) none l l) ∙ over-turn heardOf ys bs (t .i) none l m) refl $ move ! (1 ∷ 0 ∷ []) $
           assigns-last ! (bin ! (load ! (from ! (stop !)) (look ! 2 refl)) (lit ! tt) (record { fits = next-fits (t .i) n l (room₁ .0) })) (from ! (stop !)) (store ! 2 refl (tt, record { fits = next-fits (t .i) n l (room₁ .0) })) $
-          forget ! 7 refl $ forget ! 8 refl $ forget ! 9 refl $ forget ! 10 refl $ forget ! 11 refl $ forget ! 12 refl $ forget ! 13 refl $ forget ! 14 refl $
-          again ! (Nearer n) I t (next-place t l) (omega (arith, l)))))))))))))
+          forget ! 7 refl $ forget ! 8 refl $ forget ! 9 refl $ forget ! 10 refl $ forget ! 11 refl $ forget ! 12 refl $ forget ! 13 refl $
+          again ! (Nearer n) I t (next-place t l) (omega (arith, l)))))))))
           (λ last. forget ! 8 refl $ leaves t (omega (arith, t .within, nltb→le (t .i) n last)))
 
       looped : Sq W (I (first-place n)) (runs (𝓣 .C) (𝓣 .Λ) E (seq (block (loop pieces.turn-1)) rest) (atRet E Post))
       looped = first ! $ blocks ! $ loops ! 𝓣 (Nearer n) (nearer-wf n) I turn (first-place n)
 
     -- the code up to the loop
-    walk : (𝓣 : Tables 𝓤 H) → Triple 𝓤 (𝓣 .C #ticked) (Ticked 𝓤 H A mem run) → Triple 𝓤 (𝓣 .C #byte) (Byte 𝓤 H A mem run) → Room core.the-row n → Room u8 (length bs) → (n ≤ length bs) × (n ≤ placeOf foreign ys)
+    walk : (𝓣 : Tables 𝓤 H) → Triple 𝓤 (𝓣 .C #ticked) (Ticks 𝓤 H A mem run) → Room core.the-row n → Room u8 (length bs) → (n ≤ length bs) × (n ≤ placeOf foreign ys)
         → ent 𝓤 (onEntry 𝓤 H A f.signature (κ₁, (κ₂, tt)) (q₁, (q₂, tt)) x at) (WpFn 𝓤 H (𝓣 .C) (𝓣 .Λ) code.function (sliceVal (b₁, o₁) n ∷ sliceVal (b₂, o₂) (length bs) ∷ []) Post)
-    walk 𝓣 ticks gives room₁ room₂ asked =
+    walk 𝓣 ticks room₁ room₂ asked =
         qed W ((‵ (flft κ₁ q₁) ⊛ (‵ (flft κ₂ q₂) ⊛ ‵ ftrue)) ∷ ‵ (owns (MutSlice (named 0) κ₁ core.the-row ∷ MutSlice (named 1) κ₂ u8 ∷ []) x at) ∷ []) ∵ enter ! (𝓣 .C) (𝓣 .Λ) code.function (sliceVal (b₁, o₁) n ∷ sliceVal (b₂, o₂) (length bs) ∷ []) _ $
-        alloc1 ! (λ l₀. alloc1 ! (λ l₁. alloc1 ! (λ l₂. alloc1 ! (λ l₃. alloc1 ! (λ l₄. alloc1 ! (λ l₅. alloc1 ! (λ l₆. alloc1 ! (λ l₇. alloc1 ! (λ l₈. alloc1 ! (λ l₉. alloc1 ! (λ l₁₀. alloc1 ! (λ l₁₁. alloc1 ! (λ l₁₂. alloc0 ! $ params1 ! $
-        pass1 ! (init ! 22 refl (tt, (tt, (record { fits = room₁ .0 }, tt)))) $ pass1 ! (init ! 20 refl (tt, (tt, (record { fits = room₂ .0 }, tt)))) $ pass0 ! $
-        assigns ! (of-opd ! (load ! (from ! (fld ! refl (stop !))) (look-in ! 22 (sub ! 1 refl (whole !))))) (from ! (stop !)) (init ! 18 refl (tt, record { fits = room₁ .0 })) $
-        assigns ! (of-opd ! (lit ! tt)) (from ! (stop !)) (init ! 16 refl (tt, record { fits = lit< tt })) $
-        move ! (27 ∷ []) $ fsplit ! $ fsplit ! $ drop ! $ fsplit ! $ move ! (2 ∷ []) $ fsplit ! $ fsplit ! $ drop ! $ fsplit ! $ move ! (31 ∷ []) $ split ! $ move ! (1 ∷ []) $ split ! $
-        -- [both tokens; what both slices own; _12; …; _0; …]
+        alloc1 ! (λ l₀. alloc1 ! (λ l₁. alloc1 ! (λ l₂. alloc1 ! (λ l₃. alloc1 ! (λ l₄. alloc1 ! (λ l₅. alloc1 ! (λ l₆. alloc1 ! (λ l₇. alloc1 ! (λ l₈. alloc1 ! (λ l₉. alloc1 ! (λ l₁₀. alloc1 ! (λ l₁₁. alloc0 ! $ params1 ! $
+        pass1 ! (init ! 20 refl (tt, (tt, (record { fits = room₁ .0 }, tt)))) $ pass1 ! (init ! 18 refl (tt, (tt, (record { fits = room₂ .0 }, tt)))) $ pass0 ! $
+        assigns ! (of-opd ! (load ! (from ! (fld ! refl (stop !))) (look-in ! 20 (sub ! 1 refl (whole !))))) (from ! (stop !)) (init ! 16 refl (tt, record { fits = room₁ .0 })) $
+        assigns ! (of-opd ! (lit ! tt)) (from ! (stop !)) (init ! 14 refl (tt, record { fits = lit< tt })) $
+        move ! (25 ∷ []) $ fsplit ! $ fsplit ! $ drop ! $ fsplit ! $ move ! (2 ∷ []) $ fsplit ! $ fsplit ! $ drop ! $ fsplit ! $ move ! (29 ∷ []) $ split ! $ move ! (1 ∷ []) $ split ! $
+        -- [both tokens; what both slices own; _11; …; _0; …]
         move ! (6 ∷ 7 ∷ 2 ∷ []) $ opens-slice ! tt core.the-row ys b₁ o₁ $ move ! (6 ∷ 7 ∷ 4 ∷ []) $ opens-slice ! tt u8 bs b₂ o₂ $
-        keep ! (4 ∷ 0 ∷ 26 ∷ 28 ∷ 32 ∷ 30 ∷ 34 ∷ 24 ∷ 22 ∷ 20 ∷ 18 ∷ 16 ∷ 14 ∷ 12 ∷ 10 ∷ 5 ∷ 6 ∷ 7 ∷ 1 ∷ 2 ∷ 3 ∷ 35 ∷ 33 ∷ 31 ∷ 29 ∷ 27 ∷ 25 ∷ 23 ∷ 21 ∷ 19 ∷ 17 ∷ 15 ∷ 13 ∷ 11 ∷ []) $
-        looped 𝓣 ticks gives room₁ room₂ asked l₀ l₁ l₂ l₃ l₄ l₅ l₆ l₇ l₈ l₉ l₁₀ l₁₁ l₁₂)))))))))))))
+        keep ! (4 ∷ 0 ∷ 24 ∷ 26 ∷ 30 ∷ 28 ∷ 32 ∷ 22 ∷ 20 ∷ 18 ∷ 16 ∷ 14 ∷ 12 ∷ 10 ∷ 5 ∷ 6 ∷ 7 ∷ 1 ∷ 2 ∷ 3 ∷ 33 ∷ 31 ∷ 29 ∷ 27 ∷ 25 ∷ 23 ∷ 21 ∷ 19 ∷ 17 ∷ 15 ∷ 13 ∷ 11 ∷ []) $
+        looped 𝓣 ticks room₁ room₂ asked l₀ l₁ l₂ l₃ l₄ l₅ l₆ l₇ l₈ l₉ l₁₀ l₁₁))))))))))))
 
-module _ {M : Type 1} (𝓤 : URA M) (H : Heap 𝓤) (A : Atoms 𝓤) (W : Given 𝓤 H A) (mem : Memory → SProp 𝓤) (run : Routine → Fun 𝓤) (𝓣 : Tables 𝓤 H) (ticks : Triple 𝓤 (𝓣 .C #ticked) (Ticked 𝓤 H A mem run)) (gives : Triple 𝓤 (𝓣 .C #byte) (Byte 𝓤 H A mem run)) where
+module _ {M : Type 1} (𝓤 : URA M) (H : Heap 𝓤) (A : Atoms 𝓤) (W : Given 𝓤 H A) (mem : Memory → SProp 𝓤) (run : Routine → Fun 𝓤) (𝓣 : Tables 𝓤 H) (ticks : Triple 𝓤 (𝓣 .C #ticked) (Ticks 𝓤 H A mem run)) where
   walks : Walks 𝓤 H A f.ended stayed (WpFn 𝓤 H (𝓣 .C) (𝓣 .Λ) code.function) (f.clauses 𝓤 H A mem run)
   walks = walked 𝓤 H A f.ended stayed (f.clauses 𝓤 H A mem run) (WpFn 𝓤 H (𝓣 .C) (𝓣 .Λ) code.function) (λ κs. (slice-vals, (slice-vals, tt))) (λ κs. (mut-slice-tells (named 0) (κs .0) core.the-row, (mut-slice-tells (named 1) (κs .1 .0) u8, tt)))
-      (λ κs qs bounds a g are. needs 𝓤 _ _ (walk 𝓤 H A W mem run (κs .0) (κs .1 .0) (qs .0) (qs .1 .0) (a .0 .ptr .0) (a .0 .ptr .1) (a .1 .0 .ptr .0) (a .1 .0 .ptr .1) (a .0 .name) (a .1 .0 .name) (a .0 .now) (a .1 .0 .now) 𝓣 ticks gives (are .0 .0 .1) (are .1 .0 .0 .1)))
+      (λ κs qs bounds a g are. needs 𝓤 _ _ (walk 𝓤 H A W mem run (κs .0) (κs .1 .0) (qs .0) (qs .1 .0) (a .0 .ptr .0) (a .0 .ptr .1) (a .1 .0 .ptr .0) (a .1 .0 .ptr .1) (a .0 .name) (a .1 .0 .name) (a .0 .now) (a .1 .0 .now) 𝓣 ticks (are .0 .0 .1) (are .1 .0 .0 .1)))
 
   meets : Meets 𝓤 H A f.signature (WpFn 𝓤 H (𝓣 .C) (𝓣 .Λ) code.function) (f.spec 𝓤 H A mem run)
   meets = walk-meets 𝓤 H A f.ended stayed W (goes-slice 𝓤 H A W 2 0 tt (plain (λ _. core.the-row)), (goes-slice 𝓤 H A W 2 1 tt (plain (λ _. u8)), tt)) (f.clauses 𝓤 H A mem run) (WpFn 𝓤 H (𝓣 .C) (𝓣 .Λ) code.function) (WpFn-mono 𝓤 H (W .laws) 𝓣 code.function) walks
@@ -320,5 +289,4 @@ tick-each-spec 𝓤 H 𝓜 𝓖 𝓡 =
     entered 𝓤 H (tripleOf 𝓤 H (𝓖 .A) f.signature (f.spec 𝓤 H (𝓖 .A) (𝓜 .mem) (𝓡 .run)))
     (tables 𝓤 H 𝓜 𝓡 code.env .C) (tables 𝓤 H 𝓜 𝓡 code.env .Λ) #tick-each code.function (code.unfolded 𝓤 H 𝓜 𝓡)
     (meets 𝓤 H (𝓖 .A) (givenOf 𝓤 H 𝓜 𝓖) (𝓜 .mem) (𝓡 .run) (tablesOf 𝓤 H 𝓜 (tables 𝓤 H 𝓜 𝓡 code.env))
-    (cited 𝓤 H (Ticked 𝓤 H (𝓖 .A) (𝓜 .mem) (𝓡 .run)) 𝓜 𝓡 code.env #ticked ticked-def.routine code.calls-dispatcher·Core·tick-tested (ticked-thm.met 𝓤 H 𝓜 𝓖 𝓡))
-    (cited 𝓤 H (Byte 𝓤 H (𝓖 .A) (𝓜 .mem) (𝓡 .run)) 𝓜 𝓡 code.env #byte byte-def.routine code.calls-row·byte-of (byte-thm.met 𝓤 H 𝓜 𝓖 𝓡)))
+    (cited 𝓤 H (Ticks 𝓤 H (𝓖 .A) (𝓜 .mem) (𝓡 .run)) 𝓜 𝓡 code.env #ticked ticked-def.routine code.calls-dispatcher·Core·tick-tested (ticked-thm.met 𝓤 H 𝓜 𝓖 𝓡)))
