@@ -1,5 +1,5 @@
--- The bench cards A to Y, small inputs each with what it must give, and the listings of B, C, P and X, as one table about the definitions
--- (docs/SHEET.md, sections 4 to 8, 11 and 12). N to Q, S to U and W to Y are in no paper; all but T were worked out by hand.
+-- The bench cards A to Z, small inputs each with what it must give, and the listings of B, C, P and X, as one table about the definitions
+-- (docs/SHEET.md, sections 4 to 8 and 11 to 13). N to Q, S to U and W to Z are in no paper; all but T were worked out by hand.
 use Prim.Native.Nat.{ℕ, _/_, _%_}
 use Prim.Native.String.{String}
 use mathlib.Core.Path.{_≡_}
@@ -25,6 +25,8 @@ use Rattle.dispatcher.specs.Operations.{ask, step}
 use Rattle.dispatcher.specs.Starts.{sheetAnswer, sheetState, listAnswer, listState}
 use Rattle.planner.specs.Plan.{fitOf, sheetFor, planOutcome}
 use Rattle.planner.specs.Plan as planner
+use Rattle.row.specs.Row.{turned, rowOutcome, rowBytes}
+use Rattle.row.specs.OnTime.{RowCall, tickAll, callAt, replace, rowRun, rowLog}
 use Rattle.margin.specs.Answers.{marginAnswer, ticks}
 use Rattle.margin.specs.Answers as margin
 use Rattle.listing.specs.Words.{codes, lineFeed}
@@ -274,8 +276,25 @@ linesX =
 abbrev pub margins : List ℕ → List margin.Outcome
 margins l = map (marginAnswer l) (numbers 0 4)
 
+-- both cores of the sheet of card X, the releases on them, then three rows with three answer bytes
+abbrev pub rowZ : List Core
+rowZ = sheetState (verdict (grouped 1 4 0 2)) (grouped 1 4 0 2) 0 ∷ sheetState (verdict (grouped 1 4 0 2)) (grouped 1 4 0 2) 1 ∷ []
+
+abbrev pub releasesZ : List RowCall
+releasesZ = callAt 0 (release 3) ∷ callAt 0 (release 4) ∷ callAt 1 (release 2) ∷ callAt 1 (release 0) ∷ []
+
+abbrev pub bytesZ : List ℕ
+bytesZ = 0xAA ∷ 0xAA ∷ 0xAA ∷ []
+
+abbrev pub callsZ : List RowCall
+callsZ = releasesZ ++ (tickAll bytesZ ∷ tickAll bytesZ ∷ tickAll bytesZ ∷ [])
+
+-- a state with more tasks than places
+abbrev pub tooMany : Core
+tooMany = record { count = 65; tasks = [] }
+
 -- The cards. A to F and O to Q are verdicts, G to I, N and R to T plans, J and K runs on the sheet of I, L a run on the bench, M a ring
--- order, U trials, V and W margins, X and Y sheets of version 2; then the listings.
+-- order, U trials, V and W margins, X and Y sheets of version 2, Z a row of both cores of the sheet of X; then the listings.
 pub record Cards : Type 0 where
   pub A : verdict (header 0 0) ≡ checker.accepted 0 0
   pub B : verdict (listed 6 4) ≡ checker.accepted 3 1
@@ -332,6 +351,13 @@ pub record Cards : Type 0 where
       (verdict (grouped 1 4 2 2) ≡ checker.refused 23 0)
       × (verdict (grouped 1 4 0 3) ≡ checker.refused 23 0)
       × (verdict (grouped 4 1 0 2) ≡ checker.refused 23 0)
+  -- what each core hears, the bytes of the first row, one byte too few, and the second state foreign
+  pub Z :
+      (rowLog 0 callsZ rowZ ≡ entry (release 3) accepted ∷ entry (release 4) accepted ∷ entry tick (served 3) ∷ entry tick (served 4) ∷ entry tick idle ∷ [])
+      × (rowLog 1 callsZ rowZ ≡ entry (release 2) accepted ∷ entry (release 0) accepted ∷ entry tick (served 2) ∷ entry tick (served 0) ∷ entry tick (served 0) ∷ [])
+      × (rowBytes (rowOutcome (rowRun releasesZ rowZ) 3) (rowRun releasesZ rowZ) bytesZ ≡ 3 ∷ 2 ∷ 0xAA ∷ [])
+      × (rowOutcome rowZ 1 ≡ turned 24 0)
+      × (rowOutcome (rowRun (replace 1 tooMany ∷ []) rowZ) 2 ≡ turned 21 1)
   pub listingB : listingOf (listed 6 4) ≡ text linesB
   pub listingC : listingOf (listed 7 4) ≡ text linesC
   pub listingP : listingOf nearlyFull ≡ text linesP

@@ -4,14 +4,15 @@ use Prim.Native.Nat.{ℕ, zero, suc, _≤_, _<_}
 use mathlib.Core.Path.{_≡_, refl, sym, ap, subst, _∙_}
 use mathlib.Core.Bool.{Bool, true, false, not, cond, true≢false}
 use mathlib.Core.List.{List, [], _∷_, _++_, map}
+use native.Mathlib.Decide.{decLt}
 use native.Mathlib.Omega.{arith}
-use borrow.Author.Tests.{ltb-false, eqb-true, eqb-false, ne-eqb}
+use borrow.Author.Tests.{le-ltb, ltb-false, eqb-true, eqb-false, ne-eqb}
 use lib.Dec.{ltb, eqb}
 use lib.ListN.{length, getD, set, drop, length-map, length-set}
 use lib.Seq.{getD-set-same, getD-set-other}
 use Rattle.fit.specs.Lists.{Each, placeOf}
 use Rattle.fit.proofs.Finds.{place-before}
-use Rattle.fit.proofs.Lists.{each-of}
+use Rattle.fit.proofs.Lists.{each-of, each-at}
 use Rattle.checker.specs.Verdict.{verdict}
 use Rattle.timing.specs.declared.Task.{Task}
 use Rattle.timing.specs.Calls.{Call, tick, Answer, accepted, served, idle, tickAnswer, ofFirst, answer, entry, log, run}
@@ -22,11 +23,11 @@ use Rattle.dispatcher.specs.State.{tasksOf, foreign}
 use Rattle.dispatcher.specs.Operations.{ask, step, answerByte}
 use Rattle.dispatcher.specs.Starts.{stateOf, sheetAnswer, sheetState}
 use Rattle.dispatcher.specs.OnTime.{Kept}
-use Rattle.dispatcher.proofs.Foreign.{foreign-form}
-use Rattle.dispatcher.proofs.Logs.{ask-form}
+use Rattle.dispatcher.proofs.Foreign.{foreign-form, form-foreign}
+use Rattle.dispatcher.proofs.Logs.{ask-form, step-places, step-form}
 use Rattle.dispatcher.proofs.Starts.{sheet-kept}
 use Rattle.row.specs.Row.{Outcome, ticked, turned, rowOutcome, rowStates, written, rowBytes}
-use Rattle.row.specs.OnTime.{coreAt, RowCall, tickAll, callAt, replace, rowNext, rowRun, readByte, heardTick, heard, rowLog, tickCalls, ownCalls, rowCalls, staysAt, AsAlone, RowKept, RowRuns}
+use Rattle.row.specs.OnTime.{coreAt, RowCall, tickAll, callAt, replace, rowNext, rowRun, readByte, heardTick, heard, rowLog, tickCalls, ownCalls, rowCalls, staysAt, AsAlone, RowKept, Formed, PutsFormed, RowRuns}
 
 -- element k of a list that another follows, each of which is f of another list's
 map-at : {A B : Type 0} (f : A → B) (l : List A) (r : List B) (k : ℕ) (d : A) (e : B) → k < length l → getD (map f l ++ r) k e ≡ f (getD l k d)
@@ -126,5 +127,64 @@ on-time row k h s m a e xs y =
     let kept = sheet-kept s m a (rowCalls k xs row) in
     rw own (record { rule = kept .rule; by-period = kept .by-period; never-foreign = kept .never-foreign })
 
+-- states in form stay in form
+each-put : {A : Type 0} (P : A → Type 0) (l : List A) (k : ℕ) (x : A) → Each P l → P x → Each P (set l k x)
+unfolding Each
+each-put P [] k x h p = tt
+each-put P (y ∷ l) zero x h p = (p, h .1)
+each-put P (y ∷ l) (suc k) x h p = (h .0, each-put P l k x (h .1) p)
+
+each-turned : (l : List Core) → Each Formed l → Each Formed (map (step tick) l)
+unfolding Each
+each-turned [] h = tt
+each-turned (s ∷ l) h = ((step-places tick s (h .0 .0) (h .0 .1), step-form tick s (h .0 .0) (h .0 .1)), each-turned l (h .1))
+
+-- a call past the row's end changes nothing
+set-past : {A : Type 0} (l : List A) (k : ℕ) (x : A) → length l ≤ k → set l k x ≡ l
+set-past [] k x h = refl
+set-past (y ∷ l) zero x h = absurd (omega arith)
+set-past (y ∷ l) (suc k) x h = ap (λ r. y ∷ r) (set-past l k x (omega arith))
+
+next-formed : (x : RowCall) (row : List Core) → Each Formed row → PutsFormed x → Each Formed (rowNext x row) × (length (rowNext x row) ≡ length row)
+unfolding rowNext rowStates PutsFormed
+next-formed (tickAll bytes) row h y = go (rowOutcome row (length bytes))
+  where
+    go : (o : Outcome) → Each Formed (rowStates o row) × (length (rowStates o row) ≡ length row)
+    go ticked = (each-turned row h, length-map row (step tick))
+    go (turned n p) = (h, refl)
+next-formed (callAt k c) row h y = (go (decLt k (length row)), length-set row k _)
+  where
+    go : Dec (k < length row) → Each Formed (set row k (step c (coreAt row k)))
+    go (yes g) =
+        let f = each-at Formed (stateOf []) row k g h in
+        each-put Formed row k _ h (step-places c (coreAt row k) (f .0) (f .1), step-form c (coreAt row k) (f .0) (f .1))
+    go (no g) = rw (set-past row k (step c (coreAt row k)) (omega (arith, g))) h
+next-formed (replace k s) row h y = (each-put Formed row k s h y, length-set row k s)
+
+run-formed : (xs : List RowCall) (row : List Core) → Each Formed row → Each PutsFormed xs → Each Formed (rowRun xs row) × (length (rowRun xs row) ≡ length row)
+unfolding rowRun Each
+run-formed [] row h y = (h, refl)
+run-formed (x ∷ xs) row h y =
+    let a = next-formed x row h (y .0) in
+    let b = run-formed xs (rowNext x row) (a .0) (y .1) in
+    (b .0, b .1 ∙ a .1)
+
+none-foreign : (row : List Core) → Each Formed row → placeOf foreign row ≡ length row
+unfolding placeOf Each
+none-foreign [] h = refl
+none-foreign (s ∷ row) h = rw (form-foreign s (h .0 .1)) (ap suc (none-foreign row (h .1)))
+
+formed-ticked : (row : List Core) (n : ℕ) → Each Formed row → length row ≤ n → rowOutcome row n ≡ ticked
+unfolding rowOutcome
+formed-ticked row n h k =
+    let few : ltb n (length row) ≡ false = le-ltb n (length row) k in
+    let calm : ltb (placeOf foreign row) (length row) ≡ false = le-ltb (placeOf foreign row) (length row) (omega (arith, none-foreign row h)) in
+    rw (few, calm)
+
+pub always-accepted : (row : List Core) → Each Formed row → (xs : List RowCall) → Each PutsFormed xs → (n : ℕ) → length row ≤ n → rowOutcome (rowRun xs row) n ≡ ticked
+always-accepted row h xs y n k =
+    let r = run-formed xs row h y in
+    formed-ticked (rowRun xs row) n (r .0) (omega (arith, r .1, k))
+
 pub row-runs : (row : List Core) → RowRuns row
-row-runs row = record { alone = λ k h xs y. as-alone xs row k h y; on-time = on-time row }
+row-runs row = record { alone = λ k h xs y. as-alone xs row k h y; on-time = on-time row; accepted = always-accepted row }

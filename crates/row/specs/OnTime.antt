@@ -1,6 +1,6 @@
 -- Rows over whole lists of calls: each core has the log of its own calls, and one that was started from a sheet is on time (docs/SHEET.md,
 -- sections 7 and 13).
-use Prim.Native.Nat.{ℕ, _<_}
+use Prim.Native.Nat.{ℕ, _≤_, _<_}
 use mathlib.Core.Path.{_≡_}
 use mathlib.Core.Bool.{Bool, true, not, cond}
 use mathlib.Core.List.{List, [], _∷_, _++_}
@@ -13,6 +13,7 @@ use Rattle.checker.specs.Verdict.{verdict}
 use Rattle.timing.specs.Calls.{Call, tick, Answer, accepted, served, idle, Entry, entry, log, run}
 use Rattle.timing.specs.OnTime.{count, isRefused, OnTime}
 use Rattle.dispatcher.specs.declared.Core.{Core}
+use Rattle.dispatcher.specs.State.{InForm}
 use Rattle.dispatcher.specs.Operations.{ask, step}
 use Rattle.dispatcher.specs.Starts.{stateOf, sheetAnswer, sheetState}
 use Rattle.row.specs.Row.{Outcome, ticked, turned, rowOutcome, rowStates, rowBytes}
@@ -90,8 +91,20 @@ pub record RowKept (s : List ℕ) (m : ℕ) (l : List Entry) : Type 0 where
   pub by-period : OnTime (figures s .period) (figures s .budget) l
   pub never-foreign : count (isRefused 21) l ≡ 0
 
+-- a state with 64 places that is in form
+abbrev pub Formed : Core → Type 0
+Formed s = (length (s .tasks) ≡ 64) × InForm s
+
+-- only such a state is put in the place of another
+unfoldable pub PutsFormed : RowCall → Type 0
+PutsFormed (tickAll bytes) = Unit
+PutsFormed (callAt k c) = Unit
+PutsFormed (replace k s) = Formed s
+
 -- What holds of every row, for each of its positions and for every list of calls that leaves its core there, whatever the states at the
--- other positions are and become: the core has the log of its own calls, and is on time if its state is that of an accepted start.
+-- other positions are and become: the core has the log of its own calls, and is on time if its state is that of an accepted start. And where
+-- every state is in form, as those of accepted starts are, no later row with enough answer bytes is refused.
 pub record RowRuns (row : List Core) : Type 0 where
   pub alone : (k : ℕ) → k < length row → (xs : List RowCall) → Each (λ x. staysAt k x ≡ true) xs → AsAlone row k xs
   pub on-time : (k : ℕ) → k < length row → (s : List ℕ) (m : ℕ) → sheetAnswer (verdict s) m ≡ accepted → coreAt row k ≡ sheetState (verdict s) s m → (xs : List RowCall) → Each (λ x. staysAt k x ≡ true) xs → RowKept s m (rowLog k xs row)
+  pub accepted : Each Formed row → (xs : List RowCall) → Each PutsFormed xs → (n : ℕ) → length row ≤ n → rowOutcome (rowRun xs row) n ≡ ticked
