@@ -390,27 +390,27 @@ impl Core {
         ensures in_form { λ r. ⌜ (foreign self ≡ false → Ticked self r) ⌝ }
     {
         let count = counted(self.count);
-        let mut next = self;
-        let mut first = count;
+        let mut state = self;
+        let mut found = count;
         let mut i = count;
         while 0 < i {
             i -= 1;
-            let t = next.tasks[i];
-            first = sooner(t, i, first);
+            let t = state.tasks[i];
+            found = sooner(t, i, found);
             let later = aged(t);
-            next.tasks[i] = later;
+            state.tasks[i] = later;
         }
-        if count <= first {
+        if count <= found {
             return TickedCore {
-                core: next,
+                core: state,
                 byte: 255,
             };
         }
-        let t = next.tasks[first];
+        let t = state.tasks[found];
         let used = with_job(t, t.age, t.left - 1);
-        next.tasks[first] = used;
+        state.tasks[found] = used;
         TickedCore {
-            core: next,
+            core: state,
             byte: t.number,
         }
     }

@@ -12,10 +12,10 @@ use Rattle.dispatcher.proofs.sooner.Reads as sooner-reads
 use Rattle.dispatcher.proofs.with_job.Reads as with-job-reads
 
 abbrev Inv-loop : tie.InvT-loop
-Inv-loop count next₀ first₀ i₀ next first i = (i ≤ count) × Backward next₀ count i first next
+Inv-loop count state₀ found₀ i₀ state found i = (i ≤ count) × Backward state₀ count i found state
 
 abbrev μ-loop : tie.MeasureT-loop
-μ-loop count next₀ first₀ i₀ next first i = i
+μ-loop count state₀ found₀ i₀ state found i = i
 
 counted-requires : tie.Need-counted-requires Inv-loop μ-loop
 counted-requires c κs = search needs
