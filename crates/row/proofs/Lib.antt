@@ -1,5 +1,5 @@
+pub mod Places
+pub mod Outcomes
+pub mod Runs
 pub mod Walks
 pub mod Lending
-pub mod Places
-pub mod Runs
-pub mod Outcomes

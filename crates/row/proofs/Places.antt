@@ -41,11 +41,12 @@ first-place n = record { i = 0; within = omega arith }
 abbrev pub next-place : {n : ℕ} (t : Place n) → t .i < n → Place n
 next-place t h = record { i = t .i + 1; within = omega (arith, h) }
 
-is-true : (b : Bool) → T b → b ≡ true
+-- a test of the code as an equation
+pub is-true : (b : Bool) → T b → b ≡ true
 is-true true y = refl
 is-true false y = absurd y
 
-is-false : (b : Bool) → T (not b) → b ≡ false
+pub is-false : (b : Bool) → T (not b) → b ≡ false
 is-false true n = absurd n
 is-false false n = refl
 

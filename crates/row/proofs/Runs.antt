@@ -6,7 +6,7 @@ use mathlib.Core.Bool.{Bool, true, false, not, cond, true≢false}
 use mathlib.Core.List.{List, [], _∷_, _++_, map}
 use native.Mathlib.Decide.{decLt}
 use native.Mathlib.Omega.{arith}
-use borrow.Author.Tests.{le-ltb, ltb-false, eqb-true, eqb-false, ne-eqb}
+use borrow.Author.Tests.{le-ltb, lt-ltb, eqb-true, eqb-false, ne-eqb}
 use lib.Dec.{ltb, eqb}
 use lib.ListN.{length, getD, set, drop, length-map, length-set}
 use lib.Seq.{getD-set-same, getD-set-other}
@@ -62,12 +62,16 @@ byte-tells s e =
 -- no state of a row that was ticked is foreign
 pub ticked-form : (row : List Core) (n k : ℕ) → rowOutcome row n ≡ ticked → k < length row → foreign (coreAt row k) ≡ false
 unfolding rowOutcome
-ticked-form row n k e h = go (ltb n (length row)) (ltb (placeOf foreign row) (length row)) refl e
+ticked-form row n k e h = go (decLt (placeOf foreign row) (length row))
   where
-    go : (b c : Bool) → ltb (placeOf foreign row) (length row) ≡ c → cond b (turned 24 0) (cond c (turned 21 (placeOf foreign row)) ticked) ≡ ticked → foreign (coreAt row k) ≡ false
-    go true c z x = absurd (let w : _≡_ {A = ℕ} 0 1 = cc in omega arith)
-    go false true z x = absurd (let w : _≡_ {A = ℕ} 0 1 = cc in omega arith)
-    go false false z x = place-before (stateOf []) foreign row k (omega (arith, h, ltb-false (placeOf foreign row) (length row) z))
+    -- else the row is refused, with 24 or with 21
+    never : ltb (placeOf foreign row) (length row) ≡ true → (b : Bool) → ltb n (length row) ≡ b → ⊥
+    never x true y = let z : _≡_ {A = ℕ} 0 1 = cc (rw y at e) in omega arith
+    never x false y = let z : _≡_ {A = ℕ} 0 1 = cc (rw (y, x) at e) in omega arith
+
+    go : Dec (placeOf foreign row < length row) → foreign (coreAt row k) ≡ false
+    go (yes g) = absurd (never (lt-ltb (placeOf foreign row) (length row) g) (ltb n (length row)) refl)
+    go (no g) = place-before (stateOf []) foreign row k (omega (arith, h, g))
 
 -- A tick of a row: the state and the answer byte at position k are those of a tick of that state by itself.
 pub all-state : (row : List Core) (k : ℕ) → k < length row → coreAt (rowStates ticked row) k ≡ step tick (coreAt row k)

@@ -53,6 +53,7 @@ use Rattle.row.specs.declared.RowAnswer.the-variants.{Ticked, Refused}
 use Rattle.row.specs.Row.{written, outcomeOf, rowOutcome, rowStates, rowBytes}
 use Rattle.row.specs.OnTime.{RowRuns}
 use Rattle.row.proofs.Outcomes.{Gives, too-short, found-foreign, all-ticked}
+use Rattle.row.proofs.Runs.{row-runs}
 use Rattle.row.proofs.Walks.{early, says-four}
 use Rattle.row.proofs.Lending.{Kept, lends, comes-back, given-up}
 use Rattle.sheet.proofs.Refusal as word
@@ -130,7 +131,7 @@ module _ {M : Type 1} (𝓤 : URA M) (H : Heap 𝓤) (A : Atoms 𝓤) (W : Given
   exits r zs ws is g e₁ e₂ =
       qed W (Last zs ws) ∵
       suffices ! _ (ends-at 𝓤 H A f.ended stayed (f.clauses 𝓤 H A mem run) W bound (val r) r (zs, (ws, tt)) (e₁, (e₂, tt))) $
-      says-four ! (outcomeOf r ≡ rowOutcome ys (length bs)) (zs ≡ rowStates (rowOutcome ys (length bs)) ys) (ws ≡ rowBytes (rowOutcome ys (length bs)) ys bs) (RowRuns ys) _ (g .answer) (g .states) (g .bytes) (g .runs) $
+      says-four ! (outcomeOf r ≡ rowOutcome ys (length bs)) (zs ≡ rowStates (rowOutcome ys (length bs)) ys) (ws ≡ rowBytes (rowOutcome ys (length bs)) ys bs) (RowRuns ys) _ (g .answer) (g .states) (g .bytes) (row-runs ys) $
       nothing ! $ move ! (2 ∷ 0 ∷ []) $ join ! $ move ! (1 ∷ 0 ∷ []) $ join ! $ frame ! $
       nothing ! $ move ! (2 ∷ 0 ∷ []) $ fjoin ! $ move ! (1 ∷ 0 ∷ []) $ fjoin ! $ frame ! $ owned ! answer.the-row (Is answer.the-row) (enum.makes answer.the-type answer-laws.the-plain 𝓤 H A) r _ is $ done !
 
