@@ -80,7 +80,7 @@ all-state row k h = only-map-at (step tick) row k (stateOf []) h
 
 pub all-byte : (row : List Core) (bytes : List ℕ) (k : ℕ) → k < length row → getD (rowBytes ticked row bytes) k 0 ≡ answerByte (ask tick (coreAt row k))
 unfolding rowBytes written
-all-byte row bytes k h = map-at (λ s. answerByte (ask tick s)) row (drop (length row) bytes) k (stateOf []) 0 h
+all-byte row bytes k h = map-at (λ s. answerByte (ask tick s)) row _ k (stateOf []) 0 h
 
 -- what one call on the row is for the core at position k
 record Once (row : List Core) (k : ℕ) (x : RowCall) : Type 0 where
