@@ -53,7 +53,7 @@ tickedOf (refused k p) s = record { refusal = k; place = p; task = 0; core = s }
 -- what a tick of a row answers
 unfoldable pub rowTickedOf : row.Outcome → RowTicked
 rowTickedOf row.ticked = record { refusal = 0; place = 0 }
-rowTickedOf (row.turned k p) = record { refusal = k; place = p }
+rowTickedOf (row.refused k p) = record { refusal = k; place = p }
 
 -- what `margin` answers
 unfoldable pub marginedOf : margin.Outcome → Margined

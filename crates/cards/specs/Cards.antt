@@ -25,8 +25,9 @@ use Rattle.dispatcher.specs.Operations.{ask, step}
 use Rattle.dispatcher.specs.Starts.{sheetAnswer, sheetState, listAnswer, listState}
 use Rattle.planner.specs.Plan.{fitOf, sheetFor, planOutcome}
 use Rattle.planner.specs.Plan as planner
-use Rattle.row.specs.Row.{turned, rowOutcome, rowBytes}
-use Rattle.row.specs.OnTime.{RowCall, tickAll, callAt, replace, rowRun, rowLog}
+use Rattle.row.specs.Row.{rowOutcome, rowBytes}
+use Rattle.row.specs.Row as row
+use Rattle.row.specs.OnTime.{coreAt, coreLog, RowCall, tickAll, callAt, rowRun, callsAt}
 use Rattle.margin.specs.Answers.{marginAnswer, ticks}
 use Rattle.margin.specs.Answers as margin
 use Rattle.listing.specs.Words.{codes, lineFeed}
@@ -289,6 +290,10 @@ bytesZ = 0xAA ∷ 0xAA ∷ 0xAA ∷ []
 abbrev pub callsZ : List RowCall
 callsZ = releasesZ ++ (tickAll bytesZ ∷ tickAll bytesZ ∷ tickAll bytesZ ∷ [])
 
+-- the log of the core at position k over these calls
+abbrev pub logZ : ℕ → List Entry
+logZ k = coreLog (callsAt k callsZ rowZ) (coreAt rowZ k)
+
 -- a state with more tasks than places
 abbrev pub tooMany : Core
 tooMany = record { count = 65; tasks = [] }
@@ -351,13 +356,13 @@ pub record Cards : Type 0 where
       (verdict (grouped 1 4 2 2) ≡ checker.refused 23 0)
       × (verdict (grouped 1 4 0 3) ≡ checker.refused 23 0)
       × (verdict (grouped 4 1 0 2) ≡ checker.refused 23 0)
-  -- what each core hears, the bytes of the first row, one byte too few, and the second state foreign
+  -- the log of each core, the bytes of the first row, one byte too few, and the second state foreign
   pub Z :
-      (rowLog 0 callsZ rowZ ≡ entry (release 3) accepted ∷ entry (release 4) accepted ∷ entry tick (served 3) ∷ entry tick (served 4) ∷ entry tick idle ∷ [])
-      × (rowLog 1 callsZ rowZ ≡ entry (release 2) accepted ∷ entry (release 0) accepted ∷ entry tick (served 2) ∷ entry tick (served 0) ∷ entry tick (served 0) ∷ [])
+      (logZ 0 ≡ entry (release 3) accepted ∷ entry (release 4) accepted ∷ entry tick (served 3) ∷ entry tick (served 4) ∷ entry tick idle ∷ [])
+      × (logZ 1 ≡ entry (release 2) accepted ∷ entry (release 0) accepted ∷ entry tick (served 2) ∷ entry tick (served 0) ∷ entry tick (served 0) ∷ [])
       × (rowBytes (rowOutcome (rowRun releasesZ rowZ) 3) (rowRun releasesZ rowZ) bytesZ ≡ 3 ∷ 2 ∷ 0xAA ∷ [])
-      × (rowOutcome rowZ 1 ≡ turned 24 0)
-      × (rowOutcome (rowRun (replace 1 tooMany ∷ []) rowZ) 2 ≡ turned 21 1)
+      × (rowOutcome rowZ 1 ≡ row.refused 24 0)
+      × (rowOutcome (coreAt rowZ 0 ∷ tooMany ∷ []) 2 ≡ row.refused 21 1)
   pub listingB : listingOf (listed 6 4) ≡ text linesB
   pub listingC : listingOf (listed 7 4) ≡ text linesC
   pub listingP : listingOf nearlyFull ≡ text linesP

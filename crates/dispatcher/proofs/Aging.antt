@@ -5,7 +5,7 @@ use mathlib.Core.Path.{_≡_, refl, ap, _∙_}
 use mathlib.Core.List.{List, [], _∷_, _++_, map}
 use native.Mathlib.Omega.{arith}
 use lib.ListN.{length, getD, take, drop, set, length-set}
-use Rattle.fit.proofs.Overwriting.{over, self-turn}
+use Rattle.fit.proofs.Overwriting.{overwritten, self-turn}
 use Rattle.timing.specs.declared.Task.{Task}
 use Rattle.timing.specs.Tasks.{withJob, older}
 use Rattle.timing.specs.Serving.{noTask}
@@ -33,7 +33,7 @@ state-is s n l e f = λ i. record { count = e i; tasks = f i }
 pub record Aged (old : Core) (i : ℕ) (new : Core) : Type 0 where
   pub count : new .count ≡ old .count
   pub size : length (new .tasks) ≡ 64
-  pub front : new .tasks ≡ over older (old .tasks) (old .tasks) i
+  pub front : new .tasks ≡ overwritten older (old .tasks) (old .tasks) i
 
 pub aging-start : (s : Core) → length (s .tasks) ≡ 64 → Aged s 0 s
 aging-start s h = record { count = refl; size = h; front = refl }

@@ -55,8 +55,8 @@ pub record Ticked (s : Core) (r : TickedCore) : Type 0 where
   pub byte : r .byte ≡ answerByte (ask tick s)
   pub core : r .core ≡ step tick s
 
--- The same for a caller that has looked whether the state is foreign: only the count is looked at, which must not be above 64; whatever
--- the fields hold, the answer and the state that it hands back are those of the state's tasks.
+-- The same for a caller that has looked whether the state is foreign. Of the form only the count is looked at: above 64 the byte is 255 and
+-- the state stays as it is; else byte and state are those of the state's tasks, whatever their fields hold.
 pub record TestedTick (s : Core) (r : TickedCore) : Type 0 where
   pub byte : r .byte ≡ cond (ltb 64 (s .count)) 255 (answerByte (answer tick (tasksOf s)))
   pub core : r .core ≡ cond (ltb 64 (s .count)) s (withTasks s (next tick (tasksOf s)))

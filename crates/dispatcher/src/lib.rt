@@ -119,7 +119,7 @@ fn aged(t: Task) -> Task
     }
 }
 
-// A count that is at most 64, else 0.
+// The count if it is at most 64, else 0.
 fn counted(count: usize) -> usize
     ensures { λ r. ⌜ (r ≡ cond (ltb 64 count) 0 count) × (r ≤ 64) ⌝ }
 {
@@ -383,6 +383,7 @@ impl Core {
             core: next,
         }
     }
+
     // A tick for a caller that has tested the form: of the form it looks at the count alone, and a state of more than 64 tasks stays as it is.
     // It goes through the tasks from the last to the first, so that the last pending one that it meets is the first by priority.
     pub fn tick_tested(self) -> TickedCore

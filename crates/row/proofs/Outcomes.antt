@@ -14,7 +14,7 @@ use Rattle.dispatcher.specs.Operations.{step}
 use Rattle.dispatcher.specs.State.{foreign}
 use Rattle.row.specs.declared.RowAnswer.{RowAnswer}
 use Rattle.row.specs.declared.RowAnswer.the-variants.{Ticked, Refused}
-use Rattle.row.specs.Row.{Outcome, ticked, turned, outcomeOf, rowOutcome, rowStates, written, rowBytes}
+use Rattle.row.specs.Row.{Outcome, ticked, refused, outcomeOf, rowOutcome, rowStates, written, rowBytes}
 use Rattle.row.proofs.Places.{is-true, is-false}
 
 -- what the call promises of an answer r, the states zs and the bytes ws
@@ -33,12 +33,12 @@ module _ (ys : List Core) (bs : List ℕ) where
 
   pub too-short : T (ltb (length bs) (length ys)) → Gives ys bs (Refused RowWord 0) ys bs
   unfolding rowOutcome rowStates rowBytes
-  too-short h = gives (turned 24 0) _ ys bs (rw (is-true (ltb (length bs) (length ys)) h)) refl refl refl
+  too-short h = gives (refused 24 0) _ ys bs (rw (is-true (ltb (length bs) (length ys)) h)) refl refl refl
 
   module _ (h : T (not (ltb (length bs) (length ys)))) where
     pub found-foreign : T (ltb at (length ys)) → Gives ys bs (Refused Foreign at) ys bs
     unfolding rowOutcome rowStates rowBytes
-    found-foreign k = gives (turned 21 at) _ ys bs (rw (is-false (ltb (length bs) (length ys)) h, is-true (ltb at (length ys)) k)) refl refl refl
+    found-foreign k = gives (refused 21 at) _ ys bs (rw (is-false (ltb (length bs) (length ys)) h, is-true (ltb at (length ys)) k)) refl refl refl
 
     pub all-ticked : T (not (ltb at (length ys))) → (zs : List Core) (ws : List ℕ) → zs ≡ map (step tick) ys → ws ≡ written ys bs → Gives ys bs Ticked zs ws
     unfolding rowOutcome rowStates rowBytes

@@ -1,44 +1,44 @@
--- A row over whole lists of calls: each core has the log of its own calls, and one that was started from a sheet is on time.
+-- A core over lists of calls on it by itself and of ticks of rows in which it stands.
 -- Assumes nothing.
-use Prim.Native.Nat.{ℕ, zero, suc, _≤_, _<_}
+use Prim.Native.Nat.{ℕ, zero, suc, _+_, _≤_, _<_}
 use mathlib.Core.Path.{_≡_, refl, sym, ap, subst, _∙_}
-use mathlib.Core.Bool.{Bool, true, false, not, cond, true≢false}
+use mathlib.Core.Bool.{Bool, true, false, cond, true≢false}
 use mathlib.Core.List.{List, [], _∷_, _++_, map}
 use native.Mathlib.Decide.{decLt}
 use native.Mathlib.Omega.{arith}
-use borrow.Author.Tests.{le-ltb, lt-ltb, eqb-true, eqb-false, ne-eqb}
+use borrow.Author.Tests.{le-ltb, lt-ltb, ltb-true, eqb-true, eqb-false, ne-eqb}
 use lib.Dec.{ltb, eqb}
-use lib.ListN.{length, getD, set, drop, length-map, length-set}
-use lib.Seq.{getD-set-same, getD-set-other}
-use Rattle.fit.specs.Lists.{Each, placeOf}
-use Rattle.fit.proofs.Finds.{place-before}
-use Rattle.fit.proofs.Lists.{each-of, each-at}
+use lib.ListN.{length, getD, take, drop, set, length-map, length-set, length-append}
+use lib.Seq.{split-at, length-take-le, getD-append-seam, getD-set-same, getD-set-other}
+use Rattle.fit.specs.Lists.{Each, placeOf, over}
+use Rattle.fit.proofs.Finds.{place-passes, place-before}
+use Rattle.fit.proofs.Lists.{each-of, each-all}
 use Rattle.checker.specs.Verdict.{verdict}
 use Rattle.timing.specs.declared.Task.{Task}
-use Rattle.timing.specs.Calls.{Call, tick, Answer, accepted, served, idle, tickAnswer, ofFirst, answer, entry, log, run}
+use Rattle.timing.specs.Calls.{Call, tick, accepted, served, idle, tickAnswer, ofFirst, answer, entry, log, run}
 use Rattle.timing.specs.Tasks.{pending}
 use Rattle.timing.proofs.Runs.{log-append, run-both}
 use Rattle.dispatcher.specs.declared.Core.{Core}
 use Rattle.dispatcher.specs.State.{tasksOf, foreign}
 use Rattle.dispatcher.specs.Operations.{ask, step, answerByte}
 use Rattle.dispatcher.specs.Starts.{stateOf, sheetAnswer, sheetState}
-use Rattle.dispatcher.specs.OnTime.{Kept}
+use Rattle.dispatcher.specs.OnTime.{KeptOn}
 use Rattle.dispatcher.proofs.Foreign.{foreign-form, form-foreign}
 use Rattle.dispatcher.proofs.Logs.{ask-form, step-places, step-form}
 use Rattle.dispatcher.proofs.Starts.{sheet-kept}
-use Rattle.row.specs.Row.{Outcome, ticked, turned, rowOutcome, rowStates, written, rowBytes}
-use Rattle.row.specs.OnTime.{coreAt, RowCall, tickAll, callAt, replace, rowNext, rowRun, readByte, heardTick, heard, rowLog, tickCalls, ownCalls, rowCalls, staysAt, AsAlone, RowKept, Formed, PutsFormed, RowRuns}
+use Rattle.row.specs.Row.{Outcome, ticked, refused, rowOutcome, rowStates, written, rowBytes}
+use Rattle.row.specs.OnTime.{coreAt, CoreCall, single, inRow, coreNext, coreRun, readByte, tickEntries, entriesOf, coreLog, tickCalls, callsOf, ownCalls, AsAlone, Formed, CoreRuns, RowCall, tickAll, callAt, rowNext, rowRun, callsTo, callsAt, RowRuns}
 
--- element k of a list that another follows, each of which is f of another list's
+-- element k of f of a list's elements, which another list may follow
 map-at : {A B : Type 0} (f : A → B) (l : List A) (r : List B) (k : ℕ) (d : A) (e : B) → k < length l → getD (map f l ++ r) k e ≡ f (getD l k d)
 map-at f [] r k d e h = absurd (omega arith)
 map-at f (x ∷ l) r zero d e h = refl
 map-at f (x ∷ l) r (suc k) d e h = map-at f l r k d e (omega arith)
 
-only-map-at : {A : Type 0} (f : A → A) (l : List A) (k : ℕ) (d : A) → k < length l → getD (map f l) k d ≡ f (getD l k d)
-only-map-at f [] k d h = absurd (omega arith)
-only-map-at f (x ∷ l) zero d h = refl
-only-map-at f (x ∷ l) (suc k) d h = only-map-at f l k d (omega arith)
+only-map-at : {A B : Type 0} (f : A → B) (l : List A) (k : ℕ) (d : A) (e : B) → k < length l → getD (map f l) k e ≡ f (getD l k d)
+only-map-at f [] k d e h = absurd (omega arith)
+only-map-at f (x ∷ l) zero d e h = refl
+only-map-at f (x ∷ l) (suc k) d e h = only-map-at f l k d e (omega arith)
 
 -- An answer byte tells the answer of tasks whose numbers are at most 63.
 tells : (s : List Task) → Each (λ t. t .number ≤ 63) s → readByte (answerByte (ofFirst pending tickAnswer idle s)) ≡ ofFirst pending tickAnswer idle s
@@ -76,119 +76,134 @@ ticked-form row n k e h = go (decLt (placeOf foreign row) (length row))
 -- A tick of a row: the state and the answer byte at position k are those of a tick of that state by itself.
 pub all-state : (row : List Core) (k : ℕ) → k < length row → coreAt (rowStates ticked row) k ≡ step tick (coreAt row k)
 unfolding rowStates
-all-state row k h = only-map-at (step tick) row k (stateOf []) h
+all-state row k h = only-map-at (step tick) row k (stateOf []) (stateOf []) h
 
 pub all-byte : (row : List Core) (bytes : List ℕ) (k : ℕ) → k < length row → getD (rowBytes ticked row bytes) k 0 ≡ answerByte (ask tick (coreAt row k))
-unfolding rowBytes written
+unfolding rowBytes written over
 all-byte row bytes k h = map-at (λ s. answerByte (ask tick s)) row _ k (stateOf []) 0 h
 
--- what one call on the row is for the core at position k
-record Once (row : List Core) (k : ℕ) (x : RowCall) : Type 0 where
-  pub same : length (rowNext x row) ≡ length row
-  pub log : heard k x row ≡ log ask step (coreAt row k) (ownCalls k x row)
-  pub state : coreAt (rowNext x row) k ≡ run step (coreAt row k) (ownCalls k x row)
+-- A core with state s in a row stands where it stands.
+module _ (s : Core) (before after : List Core) where
+  abbrev row : List Core
+  row = before ++ s ∷ after
 
-once : (row : List Core) (k : ℕ) → k < length row → (x : RowCall) → staysAt k x ≡ true → Once row k x
-unfolding rowNext heard ownCalls staysAt rowStates heardTick tickCalls log run
-once row k h (tickAll bytes) y = go (rowOutcome row (length bytes)) refl
-  where
-    go : (o : Outcome) → rowOutcome row (length bytes) ≡ o → Once row k (tickAll bytes)
-    go ticked e = record {
-      same = rw e (length-map row (step tick));
-      log = rw e (ap (λ a. entry tick a ∷ []) (ap readByte (all-byte row bytes k h) ∙ byte-tells (coreAt row k) (ticked-form row (length bytes) k e h)));
-      state = rw e (all-state row k h);
-    }
-    go (turned n p) e = record { same = rw e; log = rw e; state = rw e }
-once row k h (callAt m c) y = go (eqb m k) refl
-  where
-    go : (b : Bool) → eqb m k ≡ b → Once row k (callAt m c)
-    go true e =
-        let z : m ≡ k = eqb-true m k e in
-        record { same = length-set row m _; log = rw e; state = rw (e, z) (getD-set-same row k _ (stateOf []) h) }
-    go false e = record { same = length-set row m _; log = rw e; state = rw e (getD-set-other row m k _ (stateOf []) (λ z. eqb-false m k e (sym z))) }
-once row k h (replace m s) y = record { same = length-set row m s; log = refl; state = getD-set-other row m k s (stateOf []) (λ z. go (eqb m k) refl y (sym z)) }
-  where
-    go : (b : Bool) → eqb m k ≡ b → not b ≡ true → m ≡ k → ⊥
-    go true e y z = true≢false (sym y)
-    go false e y z = eqb-false m k e z
+  there : coreAt row (length before) ≡ s
+  there = getD-append-seam before s after (stateOf [])
 
-pub as-alone : (xs : List RowCall) (row : List Core) (k : ℕ) → k < length row → Each (λ x. staysAt k x ≡ true) xs → AsAlone row k xs
-unfolding Each rowLog rowRun rowCalls log run
-as-alone [] row k h y = record { log = refl; state = refl }
-as-alone (x ∷ xs) row k h y =
-    let o = once row k h x (y .0) in
-    let r = as-alone xs (rowNext x row) k (omega (arith, h, o .same)) (y .1) in
-    let cs = ownCalls k x row in
-    let ds = rowCalls k xs (rowNext x row) in
+  inside : length before < length row
+  inside = omega (arith, length-append before (s ∷ after))
+
+-- what one call is for a core
+record Once (s : Core) (x : CoreCall) : Type 0 where
+  pub log : entriesOf x s ≡ log ask step s (callsOf x s)
+  pub state : coreNext x s ≡ run step s (callsOf x s)
+
+once : (s : Core) (x : CoreCall) → Once s x
+unfolding coreNext entriesOf callsOf rowStates tickEntries tickCalls log run
+once s (single c) = record { log = refl; state = refl }
+once s (inRow before after bytes) = go (rowOutcome (row s before after) (length bytes)) refl
+  where
+    go : (o : Outcome) → rowOutcome (row s before after) (length bytes) ≡ o → Once s (inRow before after bytes)
+    go ticked e =
+        let calm : foreign s ≡ false = subst (λ c. foreign c ≡ false) (there s before after) (ticked-form (row s before after) (length bytes) (length before) e (inside s before after)) in
+        let byte = all-byte (row s before after) bytes (length before) (inside s before after) ∙ ap (λ c. answerByte (ask tick c)) (there s before after) in
+        record {
+          log = rw e (ap (λ a. entry tick a ∷ []) (ap readByte byte ∙ byte-tells s calm));
+          state = rw e (all-state (row s before after) (length before) (inside s before after) ∙ ap (step tick) (there s before after));
+        }
+    go (refused n p) e = record { log = rw e; state = rw e (there s before after) }
+
+pub as-alone : (xs : List CoreCall) (s : Core) → AsAlone s xs
+unfolding coreLog coreRun ownCalls log run
+as-alone [] s = record { log = refl; state = refl }
+as-alone (x ∷ xs) s =
+    let o = once s x in
+    let r = as-alone xs (coreNext x s) in
+    let cs = callsOf x s in
+    let ds = ownCalls xs (coreNext x s) in
     record {
-      log = ap (λ l. l ++ rowLog k xs (rowNext x row)) (o .log) ∙ ap (λ l. log ask step (coreAt row k) cs ++ l) (r .log ∙ ap (λ s. log ask step s ds) (o .state)) ∙ sym (log-append ask step cs ds (coreAt row k));
-      state = r .state ∙ ap (λ s. run step s ds) (o .state) ∙ sym (run-both ask step cs ds (coreAt row k));
+      log = ap (λ l. l ++ coreLog xs (coreNext x s)) (o .log) ∙ ap (λ l. log ask step s cs ++ l) (r .log ∙ ap (λ c. log ask step c ds) (o .state)) ∙ sym (log-append ask step cs ds s);
+      state = r .state ∙ ap (λ c. run step c ds) (o .state) ∙ sym (run-both ask step cs ds s);
     }
 
-pub on-time : (row : List Core) (k : ℕ) → k < length row → (s : List ℕ) (m : ℕ) → sheetAnswer (verdict s) m ≡ accepted → coreAt row k ≡ sheetState (verdict s) s m → (xs : List RowCall) → Each (λ x. staysAt k x ≡ true) xs → RowKept s m (rowLog k xs row)
-on-time row k h s m a e xs y =
-    let own = as-alone xs row k h y .log ∙ ap (λ c. log ask step c (rowCalls k xs row)) e in
-    let kept = sheet-kept s m a (rowCalls k xs row) in
-    rw own (record { rule = kept .rule; by-period = kept .by-period; never-foreign = kept .never-foreign })
+pub on-time : (s : Core) (t : List ℕ) (m : ℕ) → sheetAnswer (verdict t) m ≡ accepted → s ≡ sheetState (verdict t) t m → (xs : List CoreCall) → KeptOn t m (coreLog xs s)
+on-time s t m a e xs = rw (as-alone xs s .log ∙ ap (λ c. log ask step c (ownCalls xs s)) e) (sheet-kept t m a (ownCalls xs s))
 
--- states in form stay in form
-each-put : {A : Type 0} (P : A → Type 0) (l : List A) (k : ℕ) (x : A) → Each P l → P x → Each P (set l k x)
-unfolding Each
-each-put P [] k x h p = tt
-each-put P (y ∷ l) zero x h p = (p, h .1)
-each-put P (y ∷ l) (suc k) x h p = (h .0, each-put P l k x (h .1) p)
+-- a state in form stays in form
+run-formed : (cs : List Call) (s : Core) → Formed s → Formed (run step s cs)
+unfolding run
+run-formed [] s f = f
+run-formed (c ∷ cs) s f = run-formed cs (step c s) (step-places c s (f .0) (f .1), step-form c s (f .0) (f .1))
 
-each-turned : (l : List Core) → Each Formed l → Each Formed (map (step tick) l)
-unfolding Each
-each-turned [] h = tt
-each-turned (s ∷ l) h = ((step-places tick s (h .0 .0) (h .0 .1), step-form tick s (h .0 .0) (h .0 .1)), each-turned l (h .1))
+pub stays-formed : (s : Core) → Formed s → (xs : List CoreCall) → Formed (coreRun xs s)
+stays-formed s f xs = subst Formed (sym (as-alone xs s .state)) (run-formed (ownCalls xs s) s f)
 
--- a call past the row's end changes nothing
-set-past : {A : Type 0} (l : List A) (k : ℕ) (x : A) → length l ≤ k → set l k x ≡ l
-set-past [] k x h = refl
-set-past (y ∷ l) zero x h = absurd (omega arith)
-set-past (y ∷ l) (suc k) x h = ap (λ r. y ∷ r) (set-past l k x (omega arith))
+pub core-runs : (s : Core) → CoreRuns s
+core-runs s = record { alone = λ xs. as-alone xs s; on-time = on-time s; formed = stays-formed s }
 
-next-formed : (x : RowCall) (row : List Core) → Each Formed row → PutsFormed x → Each Formed (rowNext x row) × (length (rowNext x row) ≡ length row)
-unfolding rowNext rowStates PutsFormed
-next-formed (tickAll bytes) row h y = go (rowOutcome row (length bytes))
+-- A row over a list of calls: the core at position k.
+module _ (row : List Core) (k : ℕ) (h : k < length row) where
+  whole : take k row ++ coreAt row k ∷ drop (suc k) row ≡ row
+  whole = sym (split-at row k (stateOf []) h)
+
+  first : length (take k row) ≡ k
+  first = length-take-le k row (omega arith)
+
+  one-call : (x : RowCall) → (coreAt (rowNext x row) k ≡ coreRun (callsTo k x row) (coreAt row k)) × (length (rowNext x row) ≡ length row)
+  unfolding rowNext rowStates callsTo coreRun coreNext
+  one-call (tickAll bytes) = (
+    ap (λ l. coreAt (rowStates (rowOutcome l (length bytes)) l) k) (sym whole) ∙ ap (λ j. coreAt (rowStates (rowOutcome (take k row ++ coreAt row k ∷ drop (suc k) row) (length bytes)) (take k row ++ coreAt row k ∷ drop (suc k) row)) j) (sym first),
+    many (rowOutcome row (length bytes)),
+  )
+    where
+      many : (o : Outcome) → length (rowStates o row) ≡ length row
+      many ticked = length-map row (step tick)
+      many (refused n p) = refl
+  one-call (callAt m c) = (go (eqb m k) refl, length-set row m _)
+    where
+      go : (b : Bool) → eqb m k ≡ b → coreAt (set row m (step c (coreAt row m))) k ≡ coreRun (cond (eqb m k) (single c ∷ []) []) (coreAt row k)
+      go true e =
+          let z : m ≡ k = eqb-true m k e in
+          rw (e, z) (getD-set-same row k _ (stateOf []) h)
+      go false e = rw e (getD-set-other row m k _ (stateOf []) (λ z. eqb-false m k e (sym z)))
+
+run-two : (xs ys : List CoreCall) (s : Core) → coreRun (xs ++ ys) s ≡ coreRun ys (coreRun xs s)
+unfolding coreRun
+run-two [] ys s = refl
+run-two (x ∷ xs) ys s = run-two xs ys (coreNext x s)
+
+pub each-core : (xs : List RowCall) (row : List Core) (k : ℕ) → k < length row → coreAt (rowRun xs row) k ≡ coreRun (callsAt k xs row) (coreAt row k)
+unfolding rowRun callsAt coreRun
+each-core [] row k h = refl
+each-core (x ∷ xs) row k h =
+    let o = one-call row k h x in
+    each-core xs (rowNext x row) k (omega (arith, h, o .1)) ∙ ap (coreRun (callsAt k xs (rowNext x row))) (o .0) ∙ sym (run-two (callsTo k x row) (callsAt k xs (rowNext x row)) (coreAt row k))
+
+-- 21 comes at the position of a foreign state
+pub never-here : (row : List Core) (n k : ℕ) → k < length row → Formed (coreAt row k) → rowOutcome row n ≡ refused 21 k → ⊥
+unfolding rowOutcome
+never-here row n k h f e = go (ltb n (length row)) (ltb (placeOf foreign row) (length row)) refl e
   where
-    go : (o : Outcome) → Each Formed (rowStates o row) × (length (rowStates o row) ≡ length row)
-    go ticked = (each-turned row h, length-map row (step tick))
-    go (turned n p) = (h, refl)
-next-formed (callAt k c) row h y = (go (decLt k (length row)), length-set row k _)
-  where
-    go : Dec (k < length row) → Each Formed (set row k (step c (coreAt row k)))
-    go (yes g) =
-        let f = each-at Formed (stateOf []) row k g h in
-        each-put Formed row k _ h (step-places c (coreAt row k) (f .0) (f .1), step-form c (coreAt row k) (f .0) (f .1))
-    go (no g) = rw (set-past row k (step c (coreAt row k)) (omega (arith, g))) h
-next-formed (replace k s) row h y = (each-put Formed row k s h y, length-set row k s)
-
-run-formed : (xs : List RowCall) (row : List Core) → Each Formed row → Each PutsFormed xs → Each Formed (rowRun xs row) × (length (rowRun xs row) ≡ length row)
-unfolding rowRun Each
-run-formed [] row h y = (h, refl)
-run-formed (x ∷ xs) row h y =
-    let a = next-formed x row h (y .0) in
-    let b = run-formed xs (rowNext x row) (a .0) (y .1) in
-    (b .0, b .1 ∙ a .1)
+    go : (b c : Bool) → ltb (placeOf foreign row) (length row) ≡ c → cond b (refused 24 0) (cond c (refused 21 (placeOf foreign row)) ticked) ≡ refused 21 k → ⊥
+    go true c x e = let z : _≡_ {A = ℕ} 24 21 = cc in omega arith
+    go false true x e =
+        let z : placeOf foreign row ≡ k = cc in
+        let hit = place-passes (stateOf []) foreign row (ltb-true (placeOf foreign row) (length row) x) in
+        true≢false (sym hit ∙ ap (λ j. foreign (coreAt row j)) z ∙ form-foreign (coreAt row k) (f .1))
+    go false false x e = let z : _≡_ {A = ℕ} 0 1 = cc in omega arith
 
 none-foreign : (row : List Core) → Each Formed row → placeOf foreign row ≡ length row
 unfolding placeOf Each
 none-foreign [] h = refl
 none-foreign (s ∷ row) h = rw (form-foreign s (h .0 .1)) (ap suc (none-foreign row (h .1)))
 
-formed-ticked : (row : List Core) (n : ℕ) → Each Formed row → length row ≤ n → rowOutcome row n ≡ ticked
+-- a row of states in form is refused only for want of answer bytes
+pub formed-ticked : (row : List Core) → Each Formed row → (n : ℕ) → length row ≤ n → rowOutcome row n ≡ ticked
 unfolding rowOutcome
-formed-ticked row n h k =
-    let few : ltb n (length row) ≡ false = le-ltb n (length row) k in
+formed-ticked row h n k =
+    let enough : ltb n (length row) ≡ false = le-ltb n (length row) k in
     let calm : ltb (placeOf foreign row) (length row) ≡ false = le-ltb (placeOf foreign row) (length row) (omega (arith, none-foreign row h)) in
-    rw (few, calm)
-
-pub always-accepted : (row : List Core) → Each Formed row → (xs : List RowCall) → Each PutsFormed xs → (n : ℕ) → length row ≤ n → rowOutcome (rowRun xs row) n ≡ ticked
-always-accepted row h xs y n k =
-    let r = run-formed xs row h y in
-    formed-ticked (rowRun xs row) n (r .0) (omega (arith, r .1, k))
+    rw (enough, calm)
 
 pub row-runs : (row : List Core) → RowRuns row
-row-runs row = record { alone = λ k h xs y. as-alone xs row k h y; on-time = on-time row; accepted = always-accepted row }
+row-runs row = record { cores = each-all CoreRuns row core-runs; each = λ k h xs. each-core xs row k h; never-here = never-here row; accepted = formed-ticked row }

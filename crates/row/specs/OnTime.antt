@@ -1,110 +1,124 @@
--- Rows over whole lists of calls: each core has the log of its own calls, and one that was started from a sheet is on time (docs/SHEET.md,
--- sections 7 and 13).
-use Prim.Native.Nat.{ℕ, _≤_, _<_}
+-- A core over a list of calls on it by itself and of ticks of rows in which it stands: its log is that of its own calls, and it is on time
+-- if it was started from a sheet (docs/SHEET.md, sections 7 and 13).
+use Prim.Native.Nat.{ℕ, suc, _≤_, _<_}
 use mathlib.Core.Path.{_≡_}
-use mathlib.Core.Bool.{Bool, true, not, cond}
+use mathlib.Core.Bool.{cond}
 use mathlib.Core.List.{List, [], _∷_, _++_}
-use lib.ListN.{length, getD, set}
+use lib.ListN.{length, getD, take, drop, set}
 use lib.Dec.{eqb}
-use Rattle.sheet.specs.Views.{figures}
 use Rattle.fit.specs.Lists.{Each}
-use Rattle.fit.specs.Cores.{withinOn}
 use Rattle.checker.specs.Verdict.{verdict}
 use Rattle.timing.specs.Calls.{Call, tick, Answer, accepted, served, idle, Entry, entry, log, run}
-use Rattle.timing.specs.OnTime.{count, isRefused, OnTime}
 use Rattle.dispatcher.specs.declared.Core.{Core}
 use Rattle.dispatcher.specs.State.{InForm}
 use Rattle.dispatcher.specs.Operations.{ask, step}
 use Rattle.dispatcher.specs.Starts.{stateOf, sheetAnswer, sheetState}
-use Rattle.row.specs.Row.{Outcome, ticked, turned, rowOutcome, rowStates, rowBytes}
+use Rattle.dispatcher.specs.OnTime.{KeptOn}
+use Rattle.row.specs.Row.{Outcome, ticked, refused, rowOutcome, rowStates, rowBytes}
 
 -- the state at a position of a row; past its end the state without tasks
 abbrev pub coreAt : List Core → ℕ → Core
 coreAt row k = getD row k (stateOf [])
 
--- what may happen to a row: a tick of the whole row with these answer bytes lent, a call on the core at a position by itself, or the state
--- at a position is replaced by another, as when a core is started anew
-pub data RowCall : Type 0 where
-  tickAll : List ℕ → RowCall
-  callAt : ℕ → Call → RowCall
-  replace : ℕ → Core → RowCall
+-- a call on a core: by itself, or a tick of a row in which it stands, with some states before it and some after it, and these answer bytes
+-- lent; the other states and the length of the row may differ from call to call
+pub data CoreCall : Type 0 where
+  single : Call → CoreCall
+  inRow : (before after : List Core) → List ℕ → CoreCall
 
--- the states that it leaves
-unfoldable pub rowNext : RowCall → List Core → List Core
-rowNext (tickAll bytes) row = rowStates (rowOutcome row (length bytes)) row
-rowNext (callAt k c) row = set row k (step c (coreAt row k))
-rowNext (replace k s) row = set row k s
+-- the core's state after one call
+unfoldable pub coreNext : CoreCall → Core → Core
+coreNext (single c) s = step c s
+coreNext (inRow before after bytes) s =
+    let row : List Core = before ++ s ∷ after in
+    coreAt (rowStates (rowOutcome row (length bytes)) row) (length before)
 
-unfoldable pub rowRun : List RowCall → List Core → List Core
-rowRun [] row = row
-rowRun (x ∷ xs) row = rowRun xs (rowNext x row)
+-- its state after a list of calls
+unfoldable pub coreRun : List CoreCall → Core → Core
+coreRun [] s = s
+coreRun (x ∷ xs) s = coreRun xs (coreNext x s)
 
 -- an answer byte as it is read: 255 is idle, any other the number of the task that has the tick
 unfoldable pub readByte : ℕ → Answer
 readByte b = cond (eqb b 255) idle (served b)
 
--- what the core at position k hears of a tick of the row, if its answer byte is then b: a refused row is no tick
-unfoldable pub heardTick : Outcome → ℕ → List Entry
-heardTick ticked b = entry tick (readByte b) ∷ []
-heardTick (turned n p) b = []
+-- the entries that a tick of a row adds to the log of a core whose answer byte is then b: a refused row is no tick
+unfoldable pub tickEntries : Outcome → ℕ → List Entry
+tickEntries ticked b = entry tick (readByte b) ∷ []
+tickEntries (refused n p) b = []
 
--- what it hears of anything that happens to the row
-unfoldable pub heard : ℕ → RowCall → List Core → List Entry
-heard k (tickAll bytes) row = heardTick (rowOutcome row (length bytes)) (getD (rowBytes (rowOutcome row (length bytes)) row bytes) k 0)
-heard k (callAt m c) row = cond (eqb m k) (entry c (ask c (coreAt row k)) ∷ []) []
-heard k (replace m s) row = []
+-- the entries that one call adds to the core's log
+unfoldable pub entriesOf : CoreCall → Core → List Entry
+entriesOf (single c) s = entry c (ask c s) ∷ []
+entriesOf (inRow before after bytes) s =
+    let row : List Core = before ++ s ∷ after in
+    tickEntries (rowOutcome row (length bytes)) (getD (rowBytes (rowOutcome row (length bytes)) row bytes) (length before) 0)
 
--- its log over a list of calls on the row
-unfoldable pub rowLog : ℕ → List RowCall → List Core → List Entry
-rowLog k [] row = []
-rowLog k (x ∷ xs) row = heard k x row ++ rowLog k xs (rowNext x row)
+-- its log over a list of calls
+unfoldable pub coreLog : List CoreCall → Core → List Entry
+coreLog [] s = []
+coreLog (x ∷ xs) s = entriesOf x s ++ coreLog xs (coreNext x s)
 
--- the calls of that log: accepted rows are its ticks
+-- the calls by itself that a tick of a row stands for: one tick, or none where the row is refused
 unfoldable pub tickCalls : Outcome → List Call
 tickCalls ticked = tick ∷ []
-tickCalls (turned n p) = []
+tickCalls (refused n p) = []
 
-unfoldable pub ownCalls : ℕ → RowCall → List Core → List Call
-ownCalls k (tickAll bytes) row = tickCalls (rowOutcome row (length bytes))
-ownCalls k (callAt m c) row = cond (eqb m k) (c ∷ []) []
-ownCalls k (replace m s) row = []
+-- the calls by itself that one call stands for
+unfoldable pub callsOf : CoreCall → Core → List Call
+callsOf (single c) s = c ∷ []
+callsOf (inRow before after bytes) s = tickCalls (rowOutcome (before ++ s ∷ after) (length bytes))
 
-unfoldable pub rowCalls : ℕ → List RowCall → List Core → List Call
-rowCalls k [] row = []
-rowCalls k (x ∷ xs) row = ownCalls k x row ++ rowCalls k xs (rowNext x row)
+-- those that a list of calls stands for
+unfoldable pub ownCalls : List CoreCall → Core → List Call
+ownCalls [] s = []
+ownCalls (x ∷ xs) s = callsOf x s ++ ownCalls xs (coreNext x s)
 
--- the state at position k is not replaced
-unfoldable pub staysAt : ℕ → RowCall → Bool
-staysAt k (tickAll bytes) = true
-staysAt k (callAt m c) = true
-staysAt k (replace m s) = not (eqb m k)
+-- Over a list of calls the core's log and its state are those of the core by itself over its own calls.
+pub record AsAlone (s : Core) (xs : List CoreCall) : Type 0 where
+  pub log : coreLog xs s ≡ log ask step s (ownCalls xs s)
+  pub state : coreRun xs s ≡ run step s (ownCalls xs s)
 
--- The core at position k of a row over a list of calls on the row: its log and its state are those of the core by itself over its own calls.
-pub record AsAlone (row : List Core) (k : ℕ) (xs : List RowCall) : Type 0 where
-  pub log : rowLog k xs row ≡ log ask step (coreAt row k) (rowCalls k xs row)
-  pub state : coreAt (rowRun xs row) k ≡ run step (coreAt row k) (rowCalls k xs row)
-
--- The on-time rule for that core, where it is core m of sheet s: with w and e of the sheet, so also with p and e, and nothing that it is
--- asked by itself is refused as Foreign (21).
-pub record RowKept (s : List ℕ) (m : ℕ) (l : List Entry) : Type 0 where
-  pub rule : OnTime (withinOn (figures s) m) (figures s .budget) l
-  pub by-period : OnTime (figures s .period) (figures s .budget) l
-  pub never-foreign : count (isRefused 21) l ≡ 0
-
--- a state with 64 places that is in form
+-- a state with 64 places that is in form, as that of an accepted start is
 abbrev pub Formed : Core → Type 0
 Formed s = (length (s .tasks) ≡ 64) × InForm s
 
--- only such a state is put in the place of another
-unfoldable pub PutsFormed : RowCall → Type 0
-PutsFormed (tickAll bytes) = Unit
-PutsFormed (callAt k c) = Unit
-PutsFormed (replace k s) = Formed s
+-- What holds of every core over every list of calls, whatever else stands in the rows: it runs as by itself; if its state is that of an
+-- accepted start of core m of sheet t, its log is on time; and if its state is in form, it stays so.
+pub record CoreRuns (s : Core) : Type 0 where
+  pub alone : (xs : List CoreCall) → AsAlone s xs
+  pub on-time : (t : List ℕ) (m : ℕ) → sheetAnswer (verdict t) m ≡ accepted → s ≡ sheetState (verdict t) t m → (xs : List CoreCall) → KeptOn t m (coreLog xs s)
+  pub formed : Formed s → (xs : List CoreCall) → Formed (coreRun xs s)
 
--- What holds of every row, for each of its positions and for every list of calls that leaves its core there, whatever the states at the
--- other positions are and become: the core has the log of its own calls, and is on time if its state is that of an accepted start. And where
--- every state is in form, as those of accepted starts are, no later row with enough answer bytes is refused.
+-- a call on a row: a tick of all its cores with these answer bytes lent, or a call on the core at a position by itself
+pub data RowCall : Type 0 where
+  tickAll : List ℕ → RowCall
+  callAt : ℕ → Call → RowCall
+
+-- the states after one call on a row
+unfoldable pub rowNext : RowCall → List Core → List Core
+rowNext (tickAll bytes) row = rowStates (rowOutcome row (length bytes)) row
+rowNext (callAt k c) row = set row k (step c (coreAt row k))
+
+-- the states after a list of calls on it
+unfoldable pub rowRun : List RowCall → List Core → List Core
+rowRun [] row = row
+rowRun (x ∷ xs) row = rowRun xs (rowNext x row)
+
+-- the calls that one call on a row is for the core at position k
+unfoldable pub callsTo : ℕ → RowCall → List Core → List CoreCall
+callsTo k (tickAll bytes) row = inRow (take k row) (drop (suc k) row) bytes ∷ []
+callsTo k (callAt m c) row = cond (eqb m k) (single c ∷ []) []
+
+-- those that a list of calls on it is
+unfoldable pub callsAt : ℕ → List RowCall → List Core → List CoreCall
+callsAt k [] row = []
+callsAt k (x ∷ xs) row = callsTo k x row ++ callsAt k xs (rowNext x row)
+
+-- What holds of every row: all this of each of its cores, for which a list of calls on the row is a list of such calls; it is never refused
+-- with 21 at the position of a state in form; and where all are in form, it is refused only for want of answer bytes.
 pub record RowRuns (row : List Core) : Type 0 where
-  pub alone : (k : ℕ) → k < length row → (xs : List RowCall) → Each (λ x. staysAt k x ≡ true) xs → AsAlone row k xs
-  pub on-time : (k : ℕ) → k < length row → (s : List ℕ) (m : ℕ) → sheetAnswer (verdict s) m ≡ accepted → coreAt row k ≡ sheetState (verdict s) s m → (xs : List RowCall) → Each (λ x. staysAt k x ≡ true) xs → RowKept s m (rowLog k xs row)
-  pub accepted : Each Formed row → (xs : List RowCall) → Each PutsFormed xs → (n : ℕ) → length row ≤ n → rowOutcome (rowRun xs row) n ≡ ticked
+  pub cores : Each CoreRuns row
+  pub each : (k : ℕ) → k < length row → (xs : List RowCall) → coreAt (rowRun xs row) k ≡ coreRun (callsAt k xs row) (coreAt row k)
+  pub never-here : (n k : ℕ) → k < length row → Formed (coreAt row k) → rowOutcome row n ≡ refused 21 k → ⊥
+  pub accepted : Each Formed row → (n : ℕ) → length row ≤ n → rowOutcome row n ≡ ticked

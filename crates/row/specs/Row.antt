@@ -1,10 +1,10 @@
 -- A row of core states on one beat (docs/SHEET.md, section 13).
 use Prim.Native.Nat.{ℕ}
 use mathlib.Core.Bool.{cond}
-use mathlib.Core.List.{List, _++_, map}
-use lib.ListN.{length, drop}
+use mathlib.Core.List.{List, map}
+use lib.ListN.{length}
 use lib.Dec.{ltb}
-use Rattle.fit.specs.Lists.{placeOf}
+use Rattle.fit.specs.Lists.{placeOf, over}
 use Rattle.sheet.specs.Refusals.{numberOf}
 use Rattle.timing.specs.Calls.{tick}
 use Rattle.dispatcher.specs.declared.Core.{Core}
@@ -16,30 +16,30 @@ use Rattle.row.specs.declared.RowAnswer.the-variants.{Ticked, Refused}
 -- what a call on a row answers: every state was given its tick, or the call is refused with a number and a place and none was
 pub data Outcome : Type 0 where
   ticked : Outcome
-  turned : ℕ → ℕ → Outcome
+  refused : ℕ → ℕ → Outcome
 
 -- the code's answer as one of the definitions: a word stands for its number
 abbrev pub outcomeOf : RowAnswer → Outcome
 outcomeOf Ticked = ticked
-outcomeOf (Refused w p) = turned (numberOf w) p
+outcomeOf (Refused w p) = refused (numberOf w) p
 
 -- the answer to a row with n answer bytes: 24 Row with place 0 where there are fewer bytes than states, then 21 Foreign with the position
 -- of the first foreign state, else every state has its tick
 unfoldable pub rowOutcome : List Core → ℕ → Outcome
 rowOutcome row n =
     let at : ℕ = placeOf foreign row in
-    cond (ltb n (length row)) (turned 24 0) (cond (ltb at (length row)) (turned 21 at) ticked)
+    cond (ltb n (length row)) (refused 24 0) (cond (ltb at (length row)) (refused 21 at) ticked)
 
 -- the states after the call: each as its own tick hands it back, and after a refusal as they were
 unfoldable pub rowStates : Outcome → List Core → List Core
 rowStates ticked row = map (step tick) row
-rowStates (turned n p) row = row
+rowStates (refused n p) row = row
 
 -- the bytes with the answers of a row's ticks at the front; those past the row keep what they held
 unfoldable pub written : List Core → List ℕ → List ℕ
-written row bytes = map (λ s. answerByte (ask tick s)) row ++ drop (length row) bytes
+written row bytes = over (map (λ s. answerByte (ask tick s)) row) bytes
 
 -- the answer bytes after the call: after a refusal as they were
 unfoldable pub rowBytes : Outcome → List Core → List ℕ → List ℕ
 rowBytes ticked row bytes = written row bytes
-rowBytes (turned n p) row bytes = bytes
+rowBytes (refused n p) row bytes = bytes

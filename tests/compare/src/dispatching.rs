@@ -79,22 +79,10 @@ fn single_calls(session: &mut Session, rng: &mut Rng) {
     }
 }
 
-/// A tick on states of every count: none pending, each task alone, each with
-/// about half of those after it, and random sets from all tasks to few.
+/// A tick on states of every count with every kind of pending sets.
 fn pending_sets(session: &mut Session, rng: &mut Rng) {
     for count in 0..=64 {
-        let quiet = quiet_core(rng, count);
-        let mut sets = vec![0; 8];
-        for place in 0..count {
-            sets.extend([1 << place, (rng.word() | 1) << place]);
-        }
-        let mut set = u64::MAX;
-        for _ in 0..6 {
-            sets.push(set);
-            set &= rng.word();
-        }
-        for set in sets {
-            let core = with_pending(rng, quiet, set);
+        for core in pending_states(rng, count) {
             let answer = tick(session, core);
             assert_eq!(answer.refusal, 0, "the state is in form");
             kinds_of_tick(session, &core, answer.task);
@@ -189,10 +177,7 @@ fn run(
         (refusal, task, core) = match call {
             Call::Release(number) => parts(release(session, core, number)),
             Call::Finish(number) => parts(finish(session, core, number)),
-            Call::Tick => {
-                let answer = tick(session, core);
-                (answer.refusal, answer.task, answer.core)
-            }
+            Call::Tick => parts_of_tick(tick(session, core)),
         };
         log.push(Entry {
             call,
@@ -223,8 +208,12 @@ pub fn on_time(
     }
 }
 
-fn parts(answer: CoreAnswer) -> (u8, u8, Core) {
+pub fn parts(answer: CoreAnswer) -> (u8, u8, Core) {
     (answer.refusal, 0, answer.core)
+}
+
+pub fn parts_of_tick(answer: TickAnswer) -> (u8, u8, Core) {
+    (answer.refusal, answer.task, answer.core)
 }
 
 /// Compare a start from these bytes.
@@ -275,7 +264,7 @@ pub fn finish(session: &mut Session, core: Core, number: u64) -> CoreAnswer {
     library
 }
 
-fn tick(session: &mut Session, core: Core) -> TickAnswer {
+pub fn tick(session: &mut Session, core: Core) -> TickAnswer {
     let (reference, library) = (reference::tick(core), binding::tick(core));
     same("tick", || state_hex(&core), &reference, &library);
     let accepted = match (core.count, reference.task) {

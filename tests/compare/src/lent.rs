@@ -8,6 +8,7 @@ use reference::Core;
 #[derive(Clone)]
 pub struct Lent {
     bytes: Vec<u8>,
+    start: usize,
 }
 
 const MARGIN: usize = 32;
@@ -15,15 +16,21 @@ const MARGIN: usize = 32;
 impl Lent {
     /// A buffer of this length that holds something of its own.
     pub fn new(length: usize, first: u8) -> Lent {
+        Lent::shifted(length, first, 0)
+    }
+
+    /// Such a buffer so many bytes further into its allocation.
+    pub fn shifted(length: usize, first: u8, shift: usize) -> Lent {
         let byte = |i: usize| first.wrapping_add((7 * i) as u8);
         Lent {
-            bytes: (0..length + 2 * MARGIN).map(byte).collect(),
+            bytes: (0..shift + length + 2 * MARGIN).map(byte).collect(),
+            start: shift + MARGIN,
         }
     }
 
     pub fn lend(&mut self) -> &mut [u8] {
         let end = self.bytes.len() - MARGIN;
-        &mut self.bytes[MARGIN..end]
+        &mut self.bytes[self.start..end]
     }
 }
 

@@ -9,6 +9,7 @@ mod margins;
 mod moving;
 mod on_time;
 mod order;
+mod pending_rows;
 mod planning;
 mod rows;
 mod session;
@@ -34,6 +35,7 @@ fn main() {
         margins::round(&mut session, &mut rng);
         moving::round(&mut session, &mut rng);
         rows::round(&mut session, &mut rng);
+        pending_rows::round(&mut session, &mut rng);
     }
     rows::long(&mut session, &mut Rng::new(seed));
 
@@ -44,5 +46,6 @@ fn main() {
     margins::must_have_seen(&session);
     moving::must_have_seen(&session);
     rows::must_have_seen(&session);
+    pending_rows::must_have_seen(&session);
     println!("compare: {} cases, 0 differences", session.cases);
 }

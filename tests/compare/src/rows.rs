@@ -2,7 +2,8 @@
 //! sheets.
 
 use crate::dispatching::{
-    finish, on_time, promises, release, sheet_to_run, start_sheet, state_hex, VERSION_1, VERSION_2,
+    finish, on_time, parts, parts_of_tick, promises, release, sheet_to_run, start_sheet, state_hex,
+    tick, VERSION_1, VERSION_2,
 };
 use crate::lent::{same_bytes, same_row, Lent, LentRow};
 use crate::on_time::{Entry, Promise};
@@ -11,15 +12,19 @@ use inputs::*;
 use reference::{Core, RowAnswer, IDLE};
 
 pub fn must_have_seen(session: &Session) {
-    let accepted = [NO_STATES, EXACT, LONGER, BOTH, PAST_A_BYTE, PAST_TWO_BYTES];
+    let accepted = [NO_STATES, EXACT, LONGER, BOTH, NO_TASKS];
+    let far = [PAST_A_BYTE, PAST_TWO_BYTES];
     let places = [FIRST, MIDDLE, LAST, SEVERAL, PAST_A_BYTE, PAST_TWO_BYTES];
     let short = [ONE_SHORT, MANY_SHORT, NO_BYTES, FOREIGN_TOO];
     session.must_have_seen("tick_row", &accepted.map(|kind| (0, kind)));
+    session.must_have_seen("tick_row", &far.map(|kind| (0, kind)));
     session.must_have_seen("tick_row", &[(0, NO_BYTES)]);
     session.must_have_seen("tick_row", &places.map(|kind| (21, kind)));
     session.must_have_seen("tick_row", &short.map(|kind| (24, kind)));
+    session.must_have_seen_at("tick_row", ADDRESS, 0..16);
     let in_run = [(0, "a row"), (21, "a row"), (24, "a row")];
     session.must_have_seen("row in a run", &in_run);
+    session.must_have_seen("row in a run", &[(0, OWN_IDLE), (0, OWN_SERVED)]);
     session.must_have_seen("job on time by rows", &[(0, VERSION_1), (0, VERSION_2)]);
 }
 
@@ -27,6 +32,7 @@ const NO_STATES: &str = "no states";
 const EXACT: &str = "as many answer bytes as states";
 const LONGER: &str = "more answer bytes than states";
 const BOTH: &str = "idle and served in one row";
+const NO_TASKS: &str = "a state without tasks beside one with tasks";
 const PAST_A_BYTE: &str = "a position above 255";
 const PAST_TWO_BYTES: &str = "a position above 65,535";
 const FIRST: &str = "the first state of several";
@@ -37,6 +43,9 @@ const ONE_SHORT: &str = "one answer byte too few";
 const MANY_SHORT: &str = "many answer bytes too few";
 const NO_BYTES: &str = "no answer bytes";
 const FOREIGN_TOO: &str = "a Foreign state too";
+const ADDRESS: &str = "answer bytes at an address modulo 16";
+const OWN_IDLE: &str = "an idle tick of one core by itself";
+const OWN_SERVED: &str = "a served tick of one core by itself";
 
 pub fn round(session: &mut Session, rng: &mut Rng) {
     let states = States::new(rng);
@@ -112,7 +121,7 @@ impl States {
 }
 
 /// Room for the answers of so many states, or more.
-fn any_room(rng: &mut Rng, count: usize) -> usize {
+pub fn any_room(rng: &mut Rng, count: usize) -> usize {
     let more = count + rng.index(100);
     rng.pick(&[count, count, count + 1, more])
 }
@@ -138,14 +147,14 @@ fn single(session: &mut Session, rng: &mut Rng, states: Vec<Core>, room: usize) 
 
 /// One row three times: for the library, for the reference, and for single ticks
 /// of the library.
-struct Row {
+pub struct Row {
     ours: Vec<Core>,
     theirs: LentRow,
     alone: Vec<Core>,
 }
 
 impl Row {
-    fn new(rng: &mut Rng, states: Vec<Core>) -> Row {
+    pub fn new(rng: &mut Rng, states: Vec<Core>) -> Row {
         // a row that is taken as longer would change them, or find them Foreign
         let about = [(); 2].map(|()| {
             let kind = rng.index(CORE_DAMAGES);
@@ -166,10 +175,17 @@ impl Row {
 
     /// Compare one call with room for so many answers. The answer, and the
     /// answer bytes.
-    fn tick(&mut self, session: &mut Session, rng: &mut Rng, room: usize) -> (RowAnswer, Vec<u8>) {
+    pub fn tick(
+        &mut self,
+        session: &mut Session,
+        rng: &mut Rng,
+        room: usize,
+    ) -> (RowAnswer, Vec<u8>) {
         let before = self.theirs.clone();
-        let lent = Lent::new(room, rng.byte());
+        let lent = Lent::shifted(room, rng.byte(), rng.index(16));
         let mut answers = lent.clone();
+        let address = answers.lend().as_ptr() as usize;
+        session.saw_at("tick_row", ADDRESS, 1 << (address % 16));
         let library = binding::tick_row(self.theirs.lend(), answers.lend());
 
         let input = || format!("{} answers of {room} bytes", row_hex(before.states()));
@@ -227,59 +243,72 @@ fn row_hex(row: &[Core]) -> String {
 }
 
 fn kinds(session: &mut Session, row: &[Core], answer: &RowAnswer, answers: &[u8]) {
-    let mut saw = |kind: &'static str| session.saw("tick_row", (answer.refusal, kind));
-    let foreign = |&core: &Core| reference::tick(core).refusal == 21;
     let (count, room) = (row.len(), answers.len());
     let place = answer.place as usize;
-    match answer.refusal {
-        0 => {
-            saw(if room == count { EXACT } else { LONGER });
-            if count == 0 {
-                saw(NO_STATES);
-            }
-            let (row, _) = answers.split_at(count);
-            if row.contains(&IDLE) && row.iter().any(|&task| task != IDLE) {
-                saw(BOTH);
-            }
-        }
-        21 => {
-            if count > 2 {
-                saw(match place {
-                    0 => FIRST,
-                    _ if place + 1 == count => LAST,
-                    _ => MIDDLE,
-                });
-            }
-            if row[place + 1..].iter().any(foreign) {
-                saw(SEVERAL);
-            }
-        }
-        _ => {
-            saw(if room + 1 == count {
-                ONE_SHORT
-            } else {
-                MANY_SHORT
-            });
-            if row.iter().any(foreign) {
-                saw(FOREIGN_TOO);
-            }
-        }
-    }
-    if room == 0 {
-        saw(NO_BYTES);
-    }
     // the last position of an accepted row, the place of a refused one
-    let far = if answer.refusal == 0 {
-        count.saturating_sub(1)
-    } else {
-        place
+    let (mut kinds, far) = match answer.refusal {
+        0 => (accepted_kinds(row, answers), count.saturating_sub(1)),
+        21 => (foreign_kinds(row, place), place),
+        _ => (short_kinds(row, room), place),
     };
+    if room == 0 {
+        kinds.push(NO_BYTES);
+    }
     if far > 255 {
-        saw(PAST_A_BYTE);
+        kinds.push(PAST_A_BYTE);
     }
     if far > 65_535 {
-        saw(PAST_TWO_BYTES);
+        kinds.push(PAST_TWO_BYTES);
     }
+    for kind in kinds {
+        session.saw("tick_row", (answer.refusal, kind));
+    }
+}
+
+fn accepted_kinds(row: &[Core], answers: &[u8]) -> Vec<&'static str> {
+    let (written, kept) = answers.split_at(row.len());
+    let mut kinds = vec![if kept.is_empty() { EXACT } else { LONGER }];
+    if row.is_empty() {
+        kinds.push(NO_STATES);
+    }
+    if written.contains(&IDLE) && written.iter().any(|&task| task != IDLE) {
+        kinds.push(BOTH);
+    }
+    if row.iter().any(|core| core.count == 0) && row.iter().any(|core| core.count > 0) {
+        kinds.push(NO_TASKS);
+    }
+    kinds
+}
+
+fn is_foreign(core: &Core) -> bool {
+    reference::tick(*core).refusal == 21
+}
+
+fn foreign_kinds(row: &[Core], place: usize) -> Vec<&'static str> {
+    let mut kinds = Vec::new();
+    if row.len() > 2 {
+        kinds.push(match place {
+            0 => FIRST,
+            _ if place + 1 == row.len() => LAST,
+            _ => MIDDLE,
+        });
+    }
+    if row[place + 1..].iter().any(is_foreign) {
+        kinds.push(SEVERAL);
+    }
+    kinds
+}
+
+fn short_kinds(row: &[Core], room: usize) -> Vec<&'static str> {
+    let mut kinds = vec![if room + 1 == row.len() {
+        ONE_SHORT
+    } else {
+        MANY_SHORT
+    }];
+    if row.iter().any(is_foreign) {
+        kinds.push(FOREIGN_TOO);
+    }
+    kinds
 }
 
 /// A core in a run of rows: its sheet, what that promises, and the calls on it.
@@ -291,8 +320,9 @@ struct Running {
     log: Vec<Entry>,
 }
 
-/// All cores of one to three sheets in a row, from their starts: releases and
-/// finishes on each, then a row, again and again; some rows are refused.
+/// All cores of one to three sheets in a row, from their starts: releases,
+/// finishes and now and then a tick on each by itself, then a row, again and
+/// again; some rows are refused.
 fn run(session: &mut Session, rng: &mut Rng) {
     let (mut cores, states) = started(session, rng);
     let count = states.len();
@@ -344,7 +374,7 @@ fn started(session: &mut Session, rng: &mut Rng) -> (Vec<Running>, Vec<Core>) {
     (cores, states)
 }
 
-/// Releases and finishes on one core of a row.
+/// Releases and finishes on one core of a row, and ticks of it by itself.
 fn calls_between(
     session: &mut Session,
     rng: &mut Rng,
@@ -356,18 +386,30 @@ fn calls_between(
     loop {
         let core = row.theirs.states()[position];
         let call = random_call(rng, &core, style);
-        let answer = match call {
-            Call::Release(number) => release(session, core, number),
-            Call::Finish(number) => finish(session, core, number),
+        let (refusal, task, next) = match call {
+            Call::Release(number) => parts(release(session, core, number)),
+            Call::Finish(number) => parts(finish(session, core, number)),
+            Call::Tick if rng.once_in(8) => own_tick(session, core),
             Call::Tick => return,
         };
-        row.put(position, answer.core);
+        row.put(position, next);
         log.push(Entry {
             call,
-            refusal: answer.refusal,
-            task: 0,
+            refusal,
+            task,
         });
     }
+}
+
+/// A tick of one core by itself, between rows.
+fn own_tick(session: &mut Session, core: Core) -> (u8, u8, Core) {
+    let answer = tick(session, core);
+    let kind = match answer.task {
+        IDLE => OWN_IDLE,
+        _ => OWN_SERVED,
+    };
+    session.saw("row in a run", (answer.refusal, kind));
+    parts_of_tick(answer)
 }
 
 /// One row of a run: a tick of each core, or of none where it is refused.

@@ -1,7 +1,8 @@
 //! What has been compared so far, and how a difference is told.
 
-use std::collections::BTreeSet;
+use std::collections::{BTreeMap, BTreeSet};
 use std::fmt::Debug;
+use std::ops::Range;
 use std::process::exit;
 
 /// A refusal, 0 where nothing is refused, and which kind of it.
@@ -11,6 +12,8 @@ pub type Kind = (u8, &'static str);
 pub struct Session {
     pub cases: u64,
     seen: BTreeSet<(&'static str, Kind)>,
+    // of a call and a kind, a bit for each place at which it occurred
+    seen_at: BTreeMap<(&'static str, &'static str), u128>,
 }
 
 impl Session {
@@ -27,6 +30,21 @@ impl Session {
 
     pub fn saw(&mut self, call: &'static str, kind: Kind) {
         self.seen.insert((call, kind));
+    }
+
+    /// Note a kind at these places, a bit for each.
+    pub fn saw_at(&mut self, call: &'static str, kind: &'static str, places: u128) {
+        *self.seen_at.entry((call, kind)).or_default() |= places;
+    }
+
+    /// Fail if there is one of these places at which this kind never occurred.
+    pub fn must_have_seen_at(&self, call: &'static str, kind: &'static str, places: Range<u32>) {
+        let seen = self.seen_at.get(&(call, kind)).copied().unwrap_or(0);
+        let missing: Vec<u32> = places.filter(|place| seen >> place & 1 == 0).collect();
+        if !missing.is_empty() {
+            println!("compare: {call} never saw {kind} at {missing:?}; more rounds?");
+            exit(1);
+        }
     }
 
     /// Fail if one of these kinds never occurred.

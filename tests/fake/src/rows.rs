@@ -8,12 +8,12 @@ use reference::*;
 /// refused row ages. 49: answers written before the Foreign state is found. 50:
 /// the place cut to 8 bits. 51: the place cut to 16 bits. 52: the last state left
 /// out. 53: an empty row refused. 54: a refused row writes a byte that belongs to
-/// no field.
+/// no field. 55: idle where the first pending task is at place 63. 56: an age at
+/// place 63 that is not raised to its period. 57: the tick goes to the last
+/// pending task.
 pub fn ticked(row: &mut [Core], answers: &mut [u8], wrong: fn(u32) -> bool) -> RowAnswer {
     let count = row.len();
-    let is_foreign = |core: &Core| tick(*core).refusal == 21;
     let first = row.iter().position(is_foreign);
-    let last = row.iter().rposition(is_foreign);
     if wrong(42) && answers.len() < count {
         if let Some(first) = first {
             return refused(21, first);
@@ -25,42 +25,80 @@ pub fn ticked(row: &mut [Core], answers: &mut [u8], wrong: fn(u32) -> bool) -> R
     if wrong(53) && count == 0 {
         return refused(24, 0);
     }
+    let before = row.to_vec();
     let mut answer = tick_row(row, answers);
-    match answer.refusal {
-        0 => {
-            if wrong(46) && answers.len() > count {
-                answers[count] = IDLE;
-            }
-            if wrong(47) {
-                let idle = answers[..count].iter_mut().filter(|task| **task == IDLE);
-                idle.for_each(|task| *task = 0);
-            }
-        }
-        _ => {
-            if wrong(48) {
-                row.iter_mut().for_each(age);
-            }
-            if wrong(54) {
-                row.iter_mut().for_each(mark);
-            }
-        }
+    match (answer.refusal, first) {
+        (0, _) => change_accepted(&before, row, answers, wrong),
+        (21, Some(first)) => answer.place = change_foreign(row, answers, first, wrong),
+        _ => {}
     }
-    if let (21, Some(first), Some(last)) = (answer.refusal, first, last) {
-        if wrong(43) {
-            tick_row(&mut row[..first], answers);
-        }
-        if wrong(49) {
-            tick_row(&mut row[..first].to_vec(), answers);
-        }
-        answer.place = match answer.place {
-            place if wrong(44) => place + 1,
-            _ if wrong(45) => last as u64,
-            place if wrong(50) => place as u8 as u64,
-            place if wrong(51) => place as u16 as u64,
-            place => place,
-        };
+    if answer.refusal != 0 && wrong(48) {
+        row.iter_mut().for_each(age);
+    }
+    if answer.refusal != 0 && wrong(54) {
+        row.iter_mut().for_each(mark);
     }
     answer
+}
+
+/// The mistakes in accepted rows.
+fn change_accepted(before: &[Core], row: &mut [Core], answers: &mut [u8], wrong: fn(u32) -> bool) {
+    let (answers, past) = answers.split_at_mut(row.len());
+    if let (true, Some(byte)) = (wrong(46), past.first_mut()) {
+        *byte = IDLE;
+    }
+    for ((before, core), answer) in before.iter().zip(row).zip(answers) {
+        if wrong(47) && *answer == IDLE {
+            *answer = 0;
+        }
+        change_ticked(before, core, answer, wrong);
+    }
+}
+
+/// The mistakes in the tick of one state.
+fn change_ticked(before: &Core, core: &mut Core, answer: &mut u8, wrong: fn(u32) -> bool) {
+    let pending = |task: &Task| task.left > 0;
+    let first = before.used().iter().position(pending);
+    let last = before.used().iter().rposition(pending);
+    let end = &before.tasks[63];
+    if wrong(55) && first == Some(63) {
+        core.tasks[63].left = end.left;
+        *answer = IDLE;
+    }
+    if wrong(56) && before.count == 64 && end.age + 1 == end.period {
+        core.tasks[63].age = end.age;
+    }
+    if let (true, Some(first), Some(last)) = (wrong(57), first, last) {
+        core.tasks[first].left += 1;
+        core.tasks[last].left -= 1;
+        *answer = core.tasks[last].number;
+    }
+}
+
+/// The mistakes in rows with a Foreign state, and the place.
+fn change_foreign(
+    row: &mut [Core],
+    answers: &mut [u8],
+    first: usize,
+    wrong: fn(u32) -> bool,
+) -> u64 {
+    if wrong(43) {
+        tick_row(&mut row[..first], answers);
+    }
+    if wrong(49) {
+        tick_row(&mut row[..first].to_vec(), answers);
+    }
+    match first as u64 {
+        place if wrong(44) => place + 1,
+        _ if wrong(45) => row.iter().rposition(is_foreign).unwrap_or(first) as u64,
+        place if wrong(50) => place as u8 as u64,
+        place if wrong(51) => place as u16 as u64,
+        place => place,
+    }
+}
+
+fn is_foreign(core: &Core) -> bool {
+    tick(*core).refusal == 21
 }
 
 fn refused(refusal: u8, place: usize) -> RowAnswer {

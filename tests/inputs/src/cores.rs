@@ -52,8 +52,33 @@ fn sound_core(rng: &mut Rng) -> Core {
     core
 }
 
-/// A state in form of so many tasks with any ages, none of them pending.
-pub fn quiet_core(rng: &mut Rng, count: usize) -> Core {
+/// States in form of so many tasks with any ages: none pending, each task
+/// alone, each with about half of those after it, and random sets from all tasks
+/// to few.
+pub fn pending_states(rng: &mut Rng, count: usize) -> Vec<Core> {
+    let mut sets = vec![0; 8];
+    for place in 0..count {
+        sets.extend([1 << place, (rng.word() | 1) << place]);
+    }
+    let mut set = u64::MAX;
+    for _ in 0..6 {
+        sets.push(set);
+        set &= rng.word();
+    }
+    let mut states = Vec::new();
+    // for every eight sets other tasks, for each set other ages
+    for some in sets.chunks(8) {
+        let quiet = quiet_core(rng, count);
+        for &set in some {
+            let aged = with_ages(rng, quiet);
+            states.push(with_pending(rng, aged, set));
+        }
+    }
+    states
+}
+
+/// A fresh state of so many tasks.
+fn quiet_core(rng: &mut Rng, count: usize) -> Core {
     let listed = rng.range(count as u64, 64) as usize;
     let mut tasks = start_list(&job_list(rng, listed)).core.used().to_vec();
     while tasks.len() > count {
@@ -61,17 +86,22 @@ pub fn quiet_core(rng: &mut Rng, count: usize) -> Core {
     }
     let mut core = Core::EMPTY;
     core.count = count as u64;
-    for (place, task) in core.tasks.iter_mut().zip(tasks) {
-        let age = rng.range(0, task.period as u64) as u16;
-        let age = rng.pick(&[task.period, 0, age]);
-        *place = Task { age, ..task };
+    core.tasks[..count].copy_from_slice(&tasks);
+    core
+}
+
+/// A state with other ages: the period, one below it, 0, or any.
+fn with_ages(rng: &mut Rng, mut core: Core) -> Core {
+    for task in &mut core.tasks[..core.count as usize] {
+        let any = rng.range(0, task.period as u64) as u16;
+        task.age = rng.pick(&[task.period, task.period - 1, 0, any]);
     }
     core
 }
 
 /// A quiet state with the tasks pending whose places have a bit in `pending`.
 /// Past the tasks stand random ones, most of them with ticks left, or zeros.
-pub fn with_pending(rng: &mut Rng, mut core: Core, pending: u64) -> Core {
+fn with_pending(rng: &mut Rng, mut core: Core, pending: u64) -> Core {
     let (tasks, past) = core.tasks.split_at_mut(core.count as usize);
     for (place, task) in tasks.iter_mut().enumerate() {
         if pending >> place & 1 == 1 {

@@ -8,7 +8,7 @@ mod rng;
 mod sheets;
 
 pub use calls::{any_number, random_call, Call};
-pub use cores::{any_core, foreign_core, quiet_core, with_pending, CORE_DAMAGES};
+pub use cores::{any_core, foreign_core, pending_states, CORE_DAMAGES};
 pub use grouped::{
     damaged_grouped, grouped_sheet, likely_grouped, random_grouped, regrouped, GROUPED_DAMAGES,
 };
