@@ -1,14 +1,15 @@
 // A row of core states on one beat: each is given its tick, and a lent row of bytes takes the answers (docs/SHEET.md, section 13).
 ghost use mathlib.Core.Path.{_≡_};
+ghost use mathlib.Core.Bool.{false};
 ghost use mathlib.Core.List.{map};
-ghost use Prim.Native.Nat.{_≤_};
-ghost use lib.ListN.{length};
+ghost use Prim.Native.Nat.{_≤_, _<_};
+ghost use lib.ListN.{length, set};
 ghost use Rattle.fit.specs.Lists.{placeOf};
 ghost use Rattle.timing.specs.Calls.{tick};
 ghost use Rattle.dispatcher.specs.State.{foreign};
-ghost use Rattle.dispatcher.specs.Operations.{step};
+ghost use Rattle.dispatcher.specs.Operations.{ask, step, answerByte};
 ghost use Rattle.row.specs.Row.{written, outcomeOf, rowOutcome, rowStates, rowBytes};
-ghost use Rattle.row.specs.OnTime.{RowRuns};
+ghost use Rattle.row.specs.OnTime.{coreAt, RowRuns};
 use dispatcher::Core;
 use sheet::Refusal;
 
@@ -33,6 +34,18 @@ fn first_foreign(row: &[Core]) -> usize
     i
 }
 
+// The state at a position, which is not foreign, is given its tick. The loop's body is a function of its own, so that the compiler keeps one
+// copy of the state less.
+fn tick_at(row: &mut [Core], answers: &mut [u8], i: usize)
+    requires { ⌜ (i < length (now row)) × ((i < length (now answers)) × (foreign (coreAt (now row) i) ≡ false)) ⌝ }
+    ensures states { λ _. ⌜ now (row .exit) ≡ set (now (row .entry)) i (step tick (coreAt (now (row .entry)) i)) ⌝ }
+    ensures bytes { λ _. ⌜ now (answers .exit) ≡ set (now (answers .entry)) i (answerByte (ask tick (coreAt (now (row .entry)) i))) ⌝ }
+{
+    let given = row[i].tick_tested();
+    row[i] = given.core;
+    answers[i] = given.byte;
+}
+
 // Each state of a row without a foreign one is given its tick.
 fn tick_each(row: &mut [Core], answers: &mut [u8])
     requires { ⌜ (length (now row) ≤ length (now answers)) × (length (now row) ≤ placeOf foreign (now row)) ⌝ }
@@ -42,9 +55,7 @@ fn tick_each(row: &mut [Core], answers: &mut [u8])
     let n = row.len();
     let mut i = 0;
     while i < n {
-        let given = row[i].tick_tested();
-        row[i] = given.core;
-        answers[i] = given.byte;
+        tick_at(row, answers, i);
         i += 1;
     }
 }
