@@ -8,7 +8,7 @@ use mathlib.Core.WellFounded.{WellFounded, InvImage·wf}
 use native.Mathlib.Nat.{mul-le-mul-right}
 use native.Mathlib.Omega.{arith}
 use lib.Dec.{T}
-use lib.ListN.{length, getD, take, drop}
+use lib.ListN.{length, getD, take}
 use lib.Seq.{take-all}
 use lib.WfN.{Nat·lt-wfRel}
 use Rattle.fit.specs.Lists.{placeOf}

@@ -3,7 +3,7 @@
 use Prim.Native.Nat.{ℕ, zero, suc, _+_, _≤_, _<_}
 use mathlib.Core.Path.{_≡_, refl, sym, ap, subst, _∙_}
 use mathlib.Core.Bool.{Bool, true, false, cond, true≢false}
-use mathlib.Core.List.{List, [], _∷_, _++_, map}
+use mathlib.Core.List.{List, [], _∷_, _++_, map, append-nil}
 use native.Mathlib.Decide.{decLt}
 use native.Mathlib.Omega.{arith}
 use borrow.Author.Tests.{le-ltb, lt-ltb, ltb-true, eqb-true, eqb-false, ne-eqb}
@@ -29,16 +29,11 @@ use Rattle.dispatcher.proofs.Starts.{sheet-kept}
 use Rattle.row.specs.Row.{Outcome, ticked, refused, rowOutcome, rowStates, written, rowBytes}
 use Rattle.row.specs.OnTime.{coreAt, CoreCall, single, inRow, coreNext, coreRun, readByte, tickEntries, entriesOf, coreLog, tickCalls, callsOf, ownCalls, AsAlone, Formed, CoreRuns, RowCall, tickAll, callAt, rowNext, rowRun, callsTo, callsAt, RowRuns}
 
--- element k of f of a list's elements, which another list may follow
+-- element k of f of a list's elements, which another list follows
 map-at : {A B : Type 0} (f : A → B) (l : List A) (r : List B) (k : ℕ) (d : A) (e : B) → k < length l → getD (map f l ++ r) k e ≡ f (getD l k d)
 map-at f [] r k d e h = absurd (omega arith)
 map-at f (x ∷ l) r zero d e h = refl
 map-at f (x ∷ l) r (suc k) d e h = map-at f l r k d e (omega arith)
-
-only-map-at : {A B : Type 0} (f : A → B) (l : List A) (k : ℕ) (d : A) (e : B) → k < length l → getD (map f l) k e ≡ f (getD l k d)
-only-map-at f [] k d e h = absurd (omega arith)
-only-map-at f (x ∷ l) zero d e h = refl
-only-map-at f (x ∷ l) (suc k) d e h = only-map-at f l k d e (omega arith)
 
 -- An answer byte tells the answer of tasks whose numbers are at most 63.
 tells : (s : List Task) → Each (λ t. t .number ≤ 63) s → readByte (answerByte (ofFirst pending tickAnswer idle s)) ≡ ofFirst pending tickAnswer idle s
@@ -76,7 +71,7 @@ ticked-form row n k e h = go (decLt (placeOf foreign row) (length row))
 -- A tick of a row: the state and the answer byte at position k are those of a tick of that state by itself.
 pub all-state : (row : List Core) (k : ℕ) → k < length row → coreAt (rowStates ticked row) k ≡ step tick (coreAt row k)
 unfolding rowStates
-all-state row k h = only-map-at (step tick) row k (stateOf []) (stateOf []) h
+all-state row k h = ap (λ l. coreAt l k) (sym (append-nil (map (step tick) row))) ∙ map-at (step tick) row [] k (stateOf []) (stateOf []) h
 
 pub all-byte : (row : List Core) (bytes : List ℕ) (k : ℕ) → k < length row → getD (rowBytes ticked row bytes) k 0 ≡ answerByte (ask tick (coreAt row k))
 unfolding rowBytes written over

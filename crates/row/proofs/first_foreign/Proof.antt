@@ -1,6 +1,6 @@
 -- `first_foreign` meets its contract: a walk of its code by hand. The slice is opened once, before the loop, and shut where the function
 -- returns; in between the loop holds a share of the row.
-use Prim.Native.Nat.{ℕ, _+_, _-_, _*_, _^_, _≤_, _<_}
+use Prim.Native.Nat.{ℕ, _^_, _≤_, _<_}
 use mathlib.Core.Path.{_≡_, refl, sym, ap, _∙_}
 use mathlib.Core.Bool.{Bool}
 use mathlib.Core.List.{List, [], _∷_}

@@ -1,7 +1,7 @@
 -- `tick_row` meets its contract: a walk of its code by hand. The row is lent as `&` to the search and comes back; `tick_each` has both
 -- slices at their own lifetimes, so they are given up for good, as on a refusal.
-use Prim.Native.Nat.{ℕ, _*_, _^_, _≤_, _<_}
-use mathlib.Core.Path.{_≡_, refl, sym, ap, subst, _∙_}
+use Prim.Native.Nat.{ℕ, _^_, _≤_, _<_}
+use mathlib.Core.Path.{_≡_, refl, ap, subst, _∙_}
 use mathlib.Core.Bool.{not}
 use mathlib.Core.List.{List, [], _∷_, map}
 use lib.Dec.{T, ltb, nltb→le, lit<}
@@ -27,7 +27,7 @@ use package.sound.WpLaws.{FmC, fmOf, WpFn-mono}
 use denote.RattleType.{owns}
 use denote.Laws.{Is, Typed, shows}
 use denote.Memory.{pointee}
-use denote.Plain.{Nothing, nothing-lawful, uint-makes, uint-lawful}
+use denote.Plain.{Nothing, nothing-lawful, uint-lawful}
 use denote.Builtin.{u8, usize}
 use denote.Ref.{RefT}
 use denote.Slice.{sliceTy, sliceVal, MutSlice, ShrSlice, Room, finally, slice-vals, mut-slice-tells}
