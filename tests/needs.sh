@@ -3,7 +3,7 @@
 set -euo pipefail
 lib=${1:-${HOMVAITS_LIB:-$(dirname "$0")/../target/staticlib/libcapi.a}}
 bound=8192      # bytes of stack for any call
-by_value=648    # bytes of a state that a caller hands in by value; tick_row is lent its states
+by_value=656    # bytes of a state that a caller hands in by value; tick_row is lent its states
 # functions that call themselves, and how often one call is there at most: put_number once for each digit of a u32
 declare -A times=([listing::put_number]=10)
 

@@ -39,6 +39,9 @@ by_core() {
     echo -n '\4\0\3\0\1\0\0\0\11\0\'"$4"'\0\2\0\0\0'
 }
 
+# Tasks (5,1) and (9,7) in version 3, with these stroke lengths in octal.
+stroked() { printf "TSH\\3\\0\\2\\1\\0\\5\\0\\1\\0\\0\\$1\\1\\0\\0\\0\\11\\0\\7\\0\\0\\$2\\2\\0\\0\\0\\11\\0\\0\\0\\2\\0\\0\\0"; }
+
 # So many bytes that look random; the first is c6.
 noise() {
     local x=1 i byte text=
@@ -107,6 +110,8 @@ task 1 core 0 period 7 budget 1 factor 2 within 6
 task 2 core 0 period 13 budget 6 factor 4 within 12
 core 0 pivot 3 divisor 1 load 1000
 '
+full=$(cat tests/programs/full-core.out; echo .)
+full=${full%.}
 try 'list of card A' 0 'TSH 1 tasks 0 cores 0\n' '' $list < <(printf 'TSH\1\0\0\0\0')
 try 'list of card B' 0 "$card_b" '' $list < <(sheet_b 6 4 0)
 try 'list of card C' 0 'refused 14 place 64\n' '' $list < <(sheet_b 7 4 0)
@@ -138,7 +143,14 @@ try 'list of an empty sheet of version 2' 0 'TSH 2 tasks 0 cores 0\n' '' $list <
 try 'list of a number twice' 0 'refused 23 place 0\n' '' $list < <(printf "$(by_core 1 4 2 2)")
 try 'list of counts that do not add up' 0 'refused 23 place 0\n' '' $list < <(printf "$(by_core 1 4 0 3)")
 try 'list of equal periods in the wrong order' 0 'refused 23 place 0\n' '' $list < <(printf "$(by_core 4 1 0 2)")
-try 'list of version 3' 0 'refused 3 place 0\n' '' $list < <(printf 'TSH\3\0\0\0\0')
+try 'list of version 4' 0 'refused 3 place 0\n' '' $list < <(printf 'TSH\4\0\0\0\0')
+
+# list: a sheet of version 3, in which strokes are not shown. A stroke of 5 is too long for task 0: 1 * 2 and 4 * 2 are above 9.
+try 'list of version 3' 0 "TSH 3 ${full#TSH 1 }" '' $list < <(stroked 1 4)
+try 'list of an empty sheet of version 3' 0 'TSH 3 tasks 0 cores 0\n' '' $list < <(printf 'TSH\3\0\0\0\0')
+try 'list of a stroke of 0' 0 'refused 25 place 0\n' '' $list < <(stroked 0 4)
+try 'list of a stroke above the budget' 0 'refused 25 place 1\n' '' $list < <(stroked 1 10)
+try 'list of a stroke that is too long' 0 'refused 14 place 64\n' '' $list < <(stroked 1 5)
 
 # list: arguments, at which nothing is read, and input that cannot be read.
 for word in --help SHEET ''; do
@@ -271,12 +283,19 @@ try 'move_sheet of card D' 0 '' 'refused 12 place 2\n' $move < <(sheet_b 6 5 0)
 try 'move_sheet of a number twice' 0 '' 'refused 23 place 0\n' $move < <(printf "$(by_core 1 4 2 2)")
 try 'move_sheet of counts that do not add up' 0 '' 'refused 23 place 0\n' $move < <(printf "$(by_core 1 4 0 3)")
 try 'move_sheet of equal periods in the wrong order' 0 '' 'refused 23 place 0\n' $move < <(printf "$(by_core 4 1 0 2)")
-try 'move_sheet of version 3' 0 '' 'refused 3 place 0\n' $move < <(printf 'TSH\3\0\0\0\0')
+try 'move_sheet of version 4' 0 '' 'refused 3 place 0\n' $move < <(printf 'TSH\4\0\0\0\0')
 try 'move_sheet of nothing' 0 '' 'refused 1 place 0\n' $move < /dev/null
 try 'move_sheet of a spare byte in use' 0 '' 'refused 6 place 33\n' $move < <(sheet_b 6 4 1)
 try 'move_sheet of a byte too many' 0 '' 'refused 5 place 0\n' $move < <(sheet_b 6 4 0; printf '\0')
 try 'move_sheet of 713 bytes' 0 '' 'refused 5 place 0\n' $move < <(cat "$room/longest"; printf '\0')
 try 'move_sheet of 2,000 bytes' 0 '' 'refused 2 place 0\n' $move < <(noise 2000)
+
+# move_sheet: a sheet of version 3 is refused for its version, be it good or not, but behind 1 and 2.
+try 'move_sheet of version 3' 0 '' 'refused 3 place 0\n' $move < <(stroked 1 4)
+try 'move_sheet of an empty sheet of version 3' 0 '' 'refused 3 place 0\n' $move < <(printf 'TSH\3\0\0\0\0')
+try 'move_sheet of a stroke of 0' 0 '' 'refused 3 place 0\n' $move < <(stroked 0 4)
+try 'move_sheet of a cut sheet of version 3' 0 '' 'refused 3 place 0\n' $move < <(stroked 1 4 | head -c 35)
+try 'move_sheet of a stub of version 3' 0 '' 'refused 1 place 0\n' $move < <(printf 'TSH\3\0\0\0')
 
 # move_sheet: arguments, at which nothing is read, and input and output that fail.
 for word in --help SHEET ''; do

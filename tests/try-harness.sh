@@ -18,7 +18,16 @@ fi
 build wrong wrong
 mistake=0
 # the call in which each mistake of fake is to be noticed
-for call in check check check check check check check check check plan plan plan plan plan plan start start start start_list release release finish tick tick tick list list list list list margin margin margin margin move move move move move move move tick_row tick_row tick_row tick_row tick_row tick_row tick_row tick_row tick_row tick_row tick_row tick_row tick_row tick_row tick_row tick_row; do
+for call in check check check check check check check check check \
+    plan plan plan plan plan plan \
+    start start start start_list release release finish tick tick tick \
+    list list list list list margin margin margin margin \
+    move move move move move move move \
+    tick_row tick_row tick_row tick_row tick_row tick_row tick_row tick_row tick_row tick_row tick_row tick_row tick_row tick_row tick_row tick_row \
+    check check check check check check check check check check check check check check check \
+    start start_list list list move move release release finish finish finish finish finish \
+    tick tick tick tick tick tick tick tick tick tick tick tick tick tick tick tick \
+    tick_row tick_row tick_row; do
     mistake=$((mistake + 1))
     answer=$(FAKE_WRONG=$mistake "$target/wrong/release/compare" 1 1) || true
     case $answer in

@@ -15,15 +15,18 @@ fn main() {
     });
     let mut rng = Rng::new(seed);
     let sheets = workload::sheets(&mut rng, 100_000);
-    check(&sheets);
+    check(&sheets, 1);
     plan(&mut rng);
     tick();
     row();
     margin(&mut rng);
     versions(&sheets);
+    for version in [2, 3] {
+        check(&workload::sheets_of(&mut rng, version, 100_000), version);
+    }
 }
 
-fn check(sheets: &[Vec<u8>]) {
+fn check(sheets: &[Vec<u8>], version: usize) {
     let mut accepted = 0;
     for sheet in sheets {
         let answer = plain::check(sheet);
@@ -33,7 +36,7 @@ fn check(sheets: &[Vec<u8>]) {
     }
     let bytes: usize = sheets.iter().map(Vec::len).sum();
     println!(
-        "check of {} sheets, {accepted} accepted, {} bytes on average:",
+        "check of {} sheets of version {version}, {accepted} accepted, {} bytes on average:",
         sheets.len(),
         bytes / sheets.len()
     );
@@ -76,6 +79,9 @@ fn tick() {
     ticks("64 tasks, only the last pending", last(64), 63);
     ticks("64 tasks, none pending", none(64), IDLE);
     ticks("8 tasks, only the last pending", last(8), 7);
+    let in_stroke = workload::in_stroke;
+    ticks("64 tasks, the last in its strokes", in_stroke(64), 63);
+    ticks("8 tasks, the last in its strokes", in_stroke(8), 7);
 }
 
 /// Ticks from this state, all with this answer.
@@ -103,6 +109,8 @@ fn row() {
     let (last, none) = (workload::last_pending, workload::none_pending);
     rows("64 tasks each, only the last pending", last(64), 63);
     rows("64 tasks each, none pending", none(64), IDLE);
+    let in_stroke = workload::in_stroke(64);
+    rows("64 tasks each, the last in its strokes", in_stroke, 63);
 }
 
 /// Rows of so many cores that begin with this state, all with this answer. Every
@@ -177,10 +185,15 @@ fn margin(rng: &mut Rng) {
     compare(lists.len(), || run(plain::margin), || run(binding::margin));
 }
 
-/// The accepted sheets and the same in version 2: checked, and moved to each
-/// other.
+/// The accepted sheets, the same in version 2 and the same in version 3: checked,
+/// and the first two moved to each other.
 fn versions(sheets: &[Vec<u8>]) {
-    let (first, second) = workload::both_versions(sheets);
+    let [first, second, third] = workload::all_versions(sheets);
+    for sheet in &third {
+        let answer = plain::check(sheet);
+        assert_eq!(answer.refusal, 0);
+        assert_eq!(answer, binding::check(sheet), "they differ on a sheet");
+    }
     for (sheet, moved) in first.iter().zip(&second) {
         for (from, to) in [(sheet, moved), (moved, sheet)] {
             let answer = plain::check(from);
@@ -193,7 +206,7 @@ fn versions(sheets: &[Vec<u8>]) {
         }
     }
     type Move = fn(&[u8], &mut [u8]) -> reference::MoveAnswer;
-    for (version, sheets) in [(1, &first), (2, &second)] {
+    for (version, sheets) in [(1, &first), (2, &second), (3, &third)] {
         let check = |call: fn(&[u8]) -> reference::CheckAnswer| {
             for sheet in sheets {
                 black_box(call(black_box(sheet)));
@@ -208,6 +221,9 @@ fn versions(sheets: &[Vec<u8>]) {
         let count = sheets.len();
         println!("check of the {count} accepted ones, of version {version}:");
         compare(count, || check(plain::check), || check(binding::check));
+        if version == 3 {
+            continue;
+        }
         println!("move of them, from version {version}:");
         compare(
             count,

@@ -3,8 +3,48 @@
 use inputs::*;
 use reference::Core;
 
-/// So many sheets, accepted and refused ones of all sizes.
+/// How sheets of a version are made: from an accepted one of version 1, one of a
+/// kind of damage, one that is nearly right, random bytes of a length.
+struct Version {
+    sound: fn(&mut Rng, Vec<u8>) -> Vec<u8>,
+    damages: usize,
+    damaged: fn(&mut Rng, &[u8], usize) -> Vec<u8>,
+    likely: fn(&mut Rng) -> Vec<u8>,
+    random: fn(&mut Rng, usize) -> Vec<u8>,
+}
+
+const VERSIONS: [Version; 3] = [
+    Version {
+        sound: |_, sheet| sheet,
+        damages: SHEET_DAMAGES,
+        damaged: damaged_sheet,
+        likely: likely_sheet,
+        random: random_bytes,
+    },
+    Version {
+        sound: |_, sheet| regrouped(&sheet).expect("the sheet is accepted"),
+        damages: GROUPED_DAMAGES,
+        damaged: damaged_grouped,
+        likely: likely_grouped,
+        random: random_grouped,
+    },
+    Version {
+        sound: |rng, sheet| with_strokes(rng, &sheet),
+        damages: STROKE_DAMAGES,
+        damaged: damaged_strokes,
+        likely: likely_strokes,
+        random: random_strokes,
+    },
+];
+
+/// So many sheets of version 1, accepted and refused ones of all sizes.
 pub fn sheets(rng: &mut Rng, count: usize) -> Vec<Vec<u8>> {
+    sheets_of(rng, 1, count)
+}
+
+/// Such sheets of this version.
+pub fn sheets_of(rng: &mut Rng, version: usize, count: usize) -> Vec<Vec<u8>> {
+    let version = &VERSIONS[version - 1];
     let planned: Vec<Vec<u8>> = (0..1000).map(|_| planned_sheet(rng)).collect();
     let sheet = |rng: &mut Rng| {
         let sound = if rng.once_in(2) {
@@ -12,32 +52,37 @@ pub fn sheets(rng: &mut Rng, count: usize) -> Vec<Vec<u8>> {
         } else {
             handmade_sheet(rng)
         };
+        let sound = (version.sound)(rng, sound);
         match rng.below(20) {
             0..11 => sound,
             11..17 => {
-                let kind = rng.index(SHEET_DAMAGES);
-                damaged_sheet(rng, &sound, kind)
+                let kind = rng.index(version.damages);
+                (version.damaged)(rng, &sound, kind)
             }
-            17..19 => likely_sheet(rng),
+            17..19 => (version.likely)(rng),
             _ => {
                 let length = rng.index(801);
-                random_bytes(rng, length)
+                (version.random)(rng, length)
             }
         }
     };
     (0..count).map(|_| sheet(rng)).collect()
 }
 
-/// The accepted ones of version 1 among the sheets, and the same in version 2.
-pub fn both_versions(sheets: &[Vec<u8>]) -> (Vec<Vec<u8>>, Vec<Vec<u8>>) {
-    let both = |sheet: &Vec<u8>| {
+/// The accepted ones of version 1 among the sheets, the same in version 2, and
+/// the same in version 3 with strokes of one tick.
+pub fn all_versions(sheets: &[Vec<u8>]) -> [Vec<Vec<u8>>; 3] {
+    let mut all = [const { Vec::new() }; 3];
+    for sheet in sheets {
         let mut out = [0; 712];
         let answer = reference::move_sheet(sheet, &mut out);
-        let moved = out[..answer.length as usize].to_vec();
-        let first = answer.refusal == 0 && reference::version(sheet) == 1;
-        first.then(|| (sheet.clone(), moved))
-    };
-    sheets.iter().filter_map(both).unzip()
+        if answer.refusal == 0 && reference::version(sheet) == 1 {
+            all[0].push(sheet.clone());
+            all[1].push(out[..answer.length as usize].to_vec());
+            all[2].push(with_short_strokes(sheet).expect("the sheet is accepted"));
+        }
+    }
+    all
 }
 
 /// So many lists of 64 jobs whose plans have all 8 cores.
@@ -71,6 +116,16 @@ pub fn none_pending(count: u16) -> Core {
     let finish = reference::finish(last_pending(count), count as u64 - 1);
     assert_eq!(finish.refusal, 0);
     finish.core
+}
+
+/// A core of so many tasks of which only the last is pending, for 60,000 ticks,
+/// in strokes of 255 ticks, the first of them under way.
+pub fn in_stroke(count: u16) -> Core {
+    let mut core = last_pending(count);
+    core.tasks[count as usize - 1].stroke = 255;
+    let tick = reference::tick(core);
+    assert_eq!((tick.refusal, tick.core.stroke_left), (0, 254));
+    tick.core
 }
 
 /// So many lists of 64 jobs that ask for 70% to 95% of one core. The periods

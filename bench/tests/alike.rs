@@ -7,17 +7,24 @@ use reference::{Core, RowAnswer};
 #[test]
 fn check() {
     let mut rng = Rng::new(1);
-    for sheet in workload::sheets(&mut rng, 20_000) {
-        let expected = reference::check(&sheet);
-        assert_eq!(plain::check(&sheet), expected);
-        assert_eq!(binding::check(&sheet), expected);
+    for version in 1..=3 {
+        for sheet in workload::sheets_of(&mut rng, version, 20_000) {
+            let expected = reference::check(&sheet);
+            assert_eq!(plain::check(&sheet), expected);
+            assert_eq!(binding::check(&sheet), expected);
+        }
     }
 }
 
-/// Accepted and damaged sheets of both versions.
-fn sheets_of_both(rng: &mut Rng) -> Vec<Vec<u8>> {
+/// Accepted and damaged sheets of all versions.
+fn sheets_of_all(rng: &mut Rng) -> Vec<Vec<u8>> {
     let mut sheets = workload::sheets(rng, 5000);
-    let (_, grouped) = workload::both_versions(&sheets);
+    let [_, grouped, strokes] = workload::all_versions(&sheets);
+    for sheet in &strokes {
+        let kind = rng.index(STROKE_DAMAGES);
+        sheets.push(damaged_strokes(rng, sheet, kind));
+    }
+    sheets.extend(strokes);
     for sheet in &grouped {
         let kind = rng.index(GROUPED_DAMAGES);
         sheets.push(damaged_grouped(rng, sheet, kind));
@@ -26,6 +33,12 @@ fn sheets_of_both(rng: &mut Rng) -> Vec<Vec<u8>> {
     for length in 0..=800 {
         sheets.push(likely_grouped(rng));
         sheets.push(random_grouped(rng, length));
+        sheets.push(likely_strokes(rng));
+        sheets.push(random_strokes(rng, length));
+        let strokes = stroke_sheet(rng);
+        let kind = rng.index(STROKE_DAMAGES);
+        sheets.push(damaged_strokes(rng, &strokes, kind));
+        sheets.push(strokes);
         let likely = likely_sheet(rng);
         sheets.extend(regrouped(&likely));
         let kind = rng.index(SHEET_DAMAGES);
@@ -41,7 +54,7 @@ type Move = fn(&[u8], &mut [u8]) -> reference::MoveAnswer;
 #[test]
 fn versions() {
     let mut rng = Rng::new(5);
-    for sheet in sheets_of_both(&mut rng) {
+    for sheet in sheets_of_all(&mut rng) {
         let expected = reference::check(&sheet);
         assert_eq!(plain::check(&sheet), expected);
         assert_eq!(binding::check(&sheet), expected);
@@ -92,6 +105,8 @@ fn tick() {
         workload::last_pending(64),
         workload::none_pending(64),
         workload::last_pending(8),
+        workload::in_stroke(64),
+        workload::in_stroke(8),
     ];
     for core in any.chain(timed) {
         let expected = reference::tick(core);
@@ -108,6 +123,7 @@ fn tick_row() {
     let mut rows = vec![
         vec![workload::last_pending(64); 8],
         vec![workload::none_pending(64); 8],
+        vec![workload::in_stroke(64); 8],
     ];
     for turn in 0..2000 {
         let count = rng.index(65);

@@ -56,11 +56,18 @@ int main(void) {
     damaged = 1;
     runs(two_cores, sizeof two_cores, 50, HOMVAITS_FOREIGN, 1);
     damaged = 0;
+    /* version 3: strokes of 1 tick, and one that has none */
+    uint8_t sheet[sizeof two_cores];
+    memcpy(sheet, two_cores, sizeof sheet);
+    sheet[3] = 3;
+    for (int i = 0; i < 5; i++) sheet[8 + 10 * i + 5] = 1;
+    runs(sheet, sizeof sheet, 50, 0, 50);
+    sheet[8 + 10 * 3 + 5] = 0;
+    runs(sheet, sizeof sheet, 3, HOMVAITS_STROKE, 0);
     states = 0;
     runs(no_cores, sizeof no_cores, 3, 0, 3);
 
     /* a refused sheet: no row at all */
-    uint8_t sheet[sizeof two_cores];
     static const struct { size_t at; uint8_t byte; int refusal; } changes[] = {
         {0, 't', HOMVAITS_MARK}, {6, 9, HOMVAITS_COUNT}, {12, 2, HOMVAITS_CORE}, {10, 9, HOMVAITS_OVERLOAD},
     };

@@ -24,7 +24,7 @@ CALLS(POINTER)
 
 static _Alignas(16) uint8_t stack[SIZE];
 static ucontext_t here, there;
-static uint8_t jobs[4 * JOBS], good[HOMVAITS_SHEET_MAX], grouped[HOMVAITS_SHEET_MAX], sheet[HOMVAITS_SHEET_MAX];
+static uint8_t jobs[4 * JOBS], good[HOMVAITS_SHEET_MAX], grouped[HOMVAITS_SHEET_MAX], stroked[HOMVAITS_SHEET_MAX], sheet[HOMVAITS_SHEET_MAX];
 static uint8_t out[HOMVAITS_SHEET_MAX], text[HOMVAITS_TEXT_MAX];
 static homvaits_checked checked;
 static homvaits_planned planned;
@@ -62,13 +62,17 @@ static size_t depth(void (*run)(void)) {
     return SIZE - at;
 }
 
-/* The deepest of a run with the planned sheet, of one with its moved sheet, and of those where the factor of the last task is 256 more
- * (Stretch) and the last state of the row is damaged. */
+/* The deepest of a run with the planned sheet, of one with its moved sheet, of one with the sheet of version 3, where a stroke lasts on the
+ * busy core too, and of those where the factor of the last task is 256 more (Stretch) and the last state of the row is damaged. */
 static size_t deepest(void (*run)(void)) {
+    const uint8_t *sheets[] = {good, grouped, stroked};
     size_t most = 0;
-    for (int i = 0; i < 4; i++) {
-        memcpy(sheet, i < 2 ? good : grouped, sizeof sheet);
+    for (int i = 0; i < 6; i++) {
+        memcpy(sheet, sheets[i / 2], sizeof sheet);
         sheet[8 + 10 * JOBS - 3] += i % 2;
+        busy.stroke_task = i / 2 == 2 ? JOBS - 1 : 0;
+        busy.stroke_left = i / 2 == 2;
+        row[0] = busy;
         row[ROW - 1].count = JOBS + i % 2;
         size_t used = depth(run);
         if (most < used) most = used;
@@ -93,9 +97,15 @@ int main(void) {
     assert(planned.refusal == 0 && planned.length == sizeof good);
     moved = homvaits_move(good, sizeof good, grouped, sizeof grouped);
     assert(moved.refusal == 0 && moved.length == sizeof grouped);
+    memcpy(stroked, good, sizeof stroked);
+    stroked[3] = 3;
+    for (int i = 0; i < JOBS; i++) stroked[8 + 10 * i + 5] = 1;
+    checked = homvaits_check(stroked, sizeof stroked);
+    assert(checked.refusal == 0 && checked.tasks == JOBS);
     fresh = homvaits_start_list(jobs, sizeof jobs).core;
     busy = homvaits_release(fresh, JOBS - 1).core;
-    assert(busy.count == JOBS && busy.tasks[JOBS - 1].left > 0);
+    assert(busy.count == JOBS && busy.tasks[JOBS - 1].left > 1);
+    busy.tasks[JOBS - 1].stroke = 2;
     for (int i = 0; i < ROW; i++) row[i] = i % 2 ? fresh : busy;
 
     int within = 1;

@@ -17,10 +17,13 @@ FIELD(task, budget, 2, 2);
 FIELD(task, age, 4, 2);
 FIELD(task, left, 6, 2);
 FIELD(task, number, 8, 1);
+FIELD(task, stroke, 9, 1);
 
-SIZE(core, 648);
+SIZE(core, 656);
 FIELD(core, count, 0, 8);
 FIELD(core, tasks, 8, 640);
+FIELD(core, stroke_task, 648, 1);
+FIELD(core, stroke_left, 649, 1);
 
 SIZE(checked, 6);
 FIELD(checked, refusal, 0, 1);
@@ -35,16 +38,16 @@ FIELD(planned, tasks, 4, 1);
 FIELD(planned, cores, 5, 1);
 FIELD(planned, length, 6, 2);
 
-SIZE(step, 656);
+SIZE(step, 664);
 FIELD(step, refusal, 0, 1);
 FIELD(step, place, 2, 2);
-FIELD(step, core, 8, 648);
+FIELD(step, core, 8, 656);
 
-SIZE(ticked, 656);
+SIZE(ticked, 664);
 FIELD(ticked, refusal, 0, 1);
 FIELD(ticked, place, 2, 2);
 FIELD(ticked, task, 4, 1);
-FIELD(ticked, core, 8, 648);
+FIELD(ticked, core, 8, 656);
 
 SIZE(row_ticked, 16);
 FIELD(row_ticked, refusal, 0, 1);
@@ -82,13 +85,14 @@ static size_t jobs_of(uint8_t *list, const unsigned (*jobs)[2], size_t n) {
 }
 
 static int same_task(const homvaits_task *a, const homvaits_task *b) {
-    return a->period == b->period && a->budget == b->budget && a->age == b->age && a->left == b->left && a->number == b->number;
+    return a->period == b->period && a->budget == b->budget && a->age == b->age && a->left == b->left && a->number == b->number &&
+           a->stroke == b->stroke;
 }
 
 static int same_core(const homvaits_core *a, const homvaits_core *b) {
     for (int i = 0; i < 64; i++)
         if (!same_task(&a->tasks[i], &b->tasks[i])) return 0;
-    return a->count == b->count;
+    return a->count == b->count && a->stroke_task == b->stroke_task && a->stroke_left == b->stroke_left;
 }
 
 /* Three tasks that fill one core: 3 1, 7 1 and 13 6, with factors 1, 2 and 4. */
@@ -103,9 +107,10 @@ static const uint8_t full[46] = {
 /* That sheet with one byte changed, and what the checker says of it. */
 static const struct { size_t at; uint8_t byte; uint8_t refusal; uint16_t place; } changes[] = {
     {0, 't', HOMVAITS_MARK, 0},
-    {3, 3, HOMVAITS_VERSION, 0},
+    {3, 4, HOMVAITS_VERSION, 0},
     {4, 1, HOMVAITS_VERSION, 0},
     {3, 2, HOMVAITS_ORDER, 0},
+    {3, 3, HOMVAITS_STROKE, 0},
     {5, 65, HOMVAITS_COUNT, 0},
     {6, 9, HOMVAITS_COUNT, 0},
     {5, 4, HOMVAITS_LENGTH, 0},
@@ -302,12 +307,156 @@ static void moves(void) {
     assert(memcmp(text, other, one.length) == 0);
 }
 
+/* Two tasks in version 3: 5 1, and 9 7 in strokes of 4 ticks, with factors 1 and 2. The strokes are bytes 13 and 23. */
+static const uint8_t stroked[36] = {
+    'T', 'S', 'H', 3, 0, 2, 1, 0,
+    5, 0, 1, 0, 0, 1, 1, 0, 0, 0,
+    9, 0, 7, 0, 0, 4, 2, 0, 0, 0,
+    9, 0, 0, 0, 2, 0, 0, 0,
+};
+
+/* That sheet with one byte changed. */
+static const struct { size_t at; uint8_t byte; uint8_t refusal; uint16_t place; } stroke_changes[] = {
+    {7, 1, HOMVAITS_SPARE, 7},
+    {30, 1, HOMVAITS_SPARE, 30},
+    {31, 1, HOMVAITS_SPARE, 31},
+    {20, 0, HOMVAITS_BUDGET, 1},
+    {13, 0, HOMVAITS_STROKE, 0},
+    {13, 2, HOMVAITS_STROKE, 0},
+    {23, 0, HOMVAITS_STROKE, 1},
+    {23, 8, HOMVAITS_STROKE, 1},
+    {23, 255, HOMVAITS_STROKE, 1},
+    {22, 1, HOMVAITS_CORE, 1},
+    {23, 5, HOMVAITS_OVERLOAD, 64},  /* 1 * 2 * 1 and 4 * 2 are above 9 * 1 */
+    {20, 8, HOMVAITS_OVERLOAD, 64},  /* the load, as in version 1 */
+    {5, 65, HOMVAITS_COUNT, 0},
+};
+
+static void stroke_refusals(void) {
+    uint8_t sheet[sizeof stroked], out[HOMVAITS_SHEET_MAX];
+    memset(out, 170, sizeof out);
+    for (size_t i = 0; i < sizeof stroke_changes / sizeof stroke_changes[0]; i++) {
+        memcpy(sheet, stroked, sizeof sheet);
+        sheet[stroke_changes[i].at] = stroke_changes[i].byte;
+        homvaits_checked checked = homvaits_check(sheet, sizeof sheet);
+        assert(checked.refusal == stroke_changes[i].refusal && checked.place == stroke_changes[i].place);
+        homvaits_step step = homvaits_start(sheet, sizeof sheet, 0);
+        assert(step.refusal == checked.refusal && step.place == checked.place && step.core.count == 0);
+        /* the version comes first in a move, but not before mark and stub */
+        assert(moved_as(homvaits_move(sheet, sizeof sheet, out, sizeof out), HOMVAITS_VERSION, 0, 0));
+    }
+    assert(moved_as(homvaits_move(stroked, sizeof stroked, out, sizeof out), HOMVAITS_VERSION, 0, 0));
+    assert(moved_as(homvaits_move(stroked, sizeof stroked, out, 0), HOMVAITS_VERSION, 0, 0));
+    assert(moved_as(homvaits_move(stroked, sizeof stroked - 1, out, sizeof out), HOMVAITS_VERSION, 0, 0));
+    assert(moved_as(homvaits_move(stroked, 7, out, sizeof out), HOMVAITS_STUB, 0, 0));
+    memcpy(sheet, stroked, sizeof sheet);
+    sheet[0] = 't';
+    assert(moved_as(homvaits_move(sheet, sizeof sheet, out, sizeof out), HOMVAITS_MARK, 0, 0));
+    for (size_t i = 0; i < sizeof out; i++) assert(out[i] == 170);
+}
+
+static int stroke_is(const homvaits_core *core, unsigned task, unsigned left) {
+    return core->stroke_task == task && core->stroke_left == left;
+}
+
+/* Task 0 waits for a stroke of task 1, as in docs/SHEET.md, 14. */
+static void strokes(void) {
+    static const uint8_t served[] = {1, 1, 1, 1, 0, 1, 1, 1, 0, HOMVAITS_IDLE};
+    static const uint8_t left[] = {3, 2, 1, 0, 0, 2, 1, 0, 0, 0};
+    uint8_t text[HOMVAITS_TEXT_MAX];
+    homvaits_checked checked = homvaits_check(stroked, sizeof stroked);
+    assert(checked.refusal == 0 && checked.place == 0 && checked.tasks == 2 && checked.cores == 1);
+    homvaits_listed listed = homvaits_list(stroked, sizeof stroked, text, sizeof text);
+    const char head[] = "TSH 3 tasks 2 cores 1\ntask 0 core 0 period 5 budget 1 factor 1 within 4\n";
+    const char tail[] = "core 0 pivot 9 divisor 2 load 1000\n";
+    assert(listed.refusal == 0 && memcmp(text, head, sizeof head - 1) == 0);
+    assert(memcmp(text + listed.length - (sizeof tail - 1), tail, sizeof tail - 1) == 0);
+    homvaits_step step = homvaits_start(stroked, sizeof stroked, 1);
+    assert(step.refusal == HOMVAITS_CORE && step.place == 0 && step.core.count == 0);
+
+    step = homvaits_start(stroked, sizeof stroked, 0);
+    assert(step.refusal == 0 && step.core.count == 2 && stroke_is(&step.core, 0, 0));
+    assert(step.core.tasks[0].stroke == 1 && step.core.tasks[1].stroke == 4 && step.core.tasks[2].stroke == 0);
+    homvaits_core core = homvaits_release(step.core, 1).core, row[1];
+    uint8_t answer;
+    for (int i = 0; i < 10; i++) {
+        if (i == 1 || i == 6) {
+            step = homvaits_release(core, 0);
+            assert(step.refusal == 0 && step.core.stroke_left == core.stroke_left);
+            core = step.core;
+        }
+        row[0] = core;
+        homvaits_ticked ticked = homvaits_tick(core);
+        core = ticked.core;
+        assert(ticked.refusal == 0 && ticked.task == served[i]);
+        assert(stroke_is(&core, left[i] > 0 ? 1 : 0, left[i]));
+        homvaits_row_ticked in_row = homvaits_tick_row(row, 1, &answer, 1);
+        assert(in_row.refusal == 0 && answer == served[i] && same_core(&row[0], &core));
+    }
+
+    /* a finish ends the stroke of its own job and no other's, a refused one none */
+    core = homvaits_tick(homvaits_release(homvaits_start(stroked, sizeof stroked, 0).core, 1).core).core;
+    core = homvaits_release(core, 0).core;
+    step = homvaits_finish(core, 0);
+    assert(step.refusal == 0 && stroke_is(&step.core, 1, 3));
+    step = homvaits_finish(step.core, 0);
+    assert(step.refusal == HOMVAITS_QUIET && stroke_is(&step.core, 1, 3));
+    step = homvaits_finish(core, 1);
+    assert(step.refusal == 0 && stroke_is(&step.core, 0, 0));
+    assert(homvaits_tick(step.core).task == 0);
+}
+
+/* A stroke of task 1 that lasts, and the same state with these stroke length, number and ticks left of the stroke. */
+static void damaged_strokes(void) {
+    static const struct { uint8_t stroke, task, left, refusal; } cases[] = {
+        {4, 1, 3, 0},
+        {4, 1, 1, 0},
+        {4, 0, 0, 0},
+        {4, 1, 0, HOMVAITS_FOREIGN},   /* a number without ticks */
+        {4, 0, 3, HOMVAITS_FOREIGN},   /* task 0 is not pending */
+        {4, 2, 3, HOMVAITS_FOREIGN},   /* no task of the core */
+        {4, 255, 1, HOMVAITS_FOREIGN},
+        {4, 1, 4, HOMVAITS_FOREIGN},   /* longer than the stroke */
+        {7, 1, 6, 0},                  /* as long as the job */
+        {7, 1, 7, HOMVAITS_FOREIGN},
+        {3, 1, 3, HOMVAITS_FOREIGN},
+        {0, 0, 0, HOMVAITS_FOREIGN},   /* stroke lengths out of range */
+        {8, 0, 0, HOMVAITS_FOREIGN},
+    };
+    homvaits_core good = homvaits_tick(homvaits_release(homvaits_start(stroked, sizeof stroked, 0).core, 1).core).core;
+    uint8_t answer;
+    for (size_t i = 0; i < sizeof cases / sizeof cases[0]; i++) {
+        homvaits_core core = good, row[1];
+        core.tasks[1].stroke = cases[i].stroke;
+        core.stroke_task = cases[i].task;
+        core.stroke_left = cases[i].left;
+        memcpy(row, &core, sizeof row);
+        homvaits_ticked ticked = homvaits_tick(core);
+        homvaits_step released = homvaits_release(core, 0), finished = homvaits_finish(core, 1);
+        homvaits_row_ticked in_row = homvaits_tick_row(row, 1, &answer, 1);
+        assert(ticked.refusal == cases[i].refusal && ticked.place == 0);
+        assert(released.refusal == cases[i].refusal && finished.refusal == cases[i].refusal);
+        assert(in_row.refusal == cases[i].refusal && in_row.place == 0);
+        if (cases[i].refusal == 0) continue;
+        assert(same_core(&ticked.core, &core) && same_core(&released.core, &core) && same_core(&finished.core, &core));
+        assert(memcmp(row, &core, sizeof row) == 0);
+    }
+    /* fewer ticks left to the job than to its stroke */
+    good.tasks[1].left = 2;
+    assert(homvaits_tick(good).refusal == HOMVAITS_FOREIGN);
+    good.tasks[1].left = 3;
+    assert(homvaits_tick(good).refusal == 0);
+    /* places past the tasks are not looked at */
+    good.tasks[2].stroke = 9;
+    assert(homvaits_tick(good).refusal == 0 && homvaits_tick(good).core.tasks[2].stroke == 9);
+}
+
 static int row_ticked_as(homvaits_row_ticked ticked, unsigned refusal, uint64_t place) {
     return ticked.refusal == refusal && ticked.place == place;
 }
 
 /* A good state and a damaged one, in memory that cannot be written. */
-static const homvaits_core fixed_row[2] = {{1, {{5, 2, 0, 2, 0}}}, {65, {{5, 2, 0, 2, 0}}}};
+static const homvaits_core fixed_row[2] = {{1, {{5, 2, 0, 2, 0, 1}}, 0, 0}, {65, {{5, 2, 0, 2, 0, 1}}, 0, 0}};
 static const uint8_t fixed_answers[2] = {170, 170};
 
 enum { LONG_ROW = 300 };
@@ -378,6 +527,9 @@ int main(void) {
     list_refusals();
     margins();
     moves();
+    stroke_refusals();
+    strokes();
+    damaged_strokes();
     row_refusals();
     rows();
 
@@ -397,6 +549,7 @@ int main(void) {
     assert(step.refusal == 0 && step.core.count == 2);
     const homvaits_task *second = &step.core.tasks[1];
     assert(second->period == 9 && second->budget == 7 && second->age == 9 && second->left == 0 && second->number == 1);
+    assert(second->stroke == 1);
     step = homvaits_release(step.core, 0);
     assert(step.refusal == 0);
     step = homvaits_release(step.core, 1);

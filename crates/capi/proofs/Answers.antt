@@ -71,6 +71,7 @@ positive words.Foreign = lit≤ tt
 positive words.Start = lit≤ tt
 positive words.Order = lit≤ tt
 positive words.Row = lit≤ tt
+positive words.Stroke = lit≤ tt
 
 -- the checker's answer
 pub checked-accepted : (v : Verdict) (o : check.Outcome) (n c : ℕ) → check.outcomeOf v ≡ o → v ≡ verdicts.Accepted n c → record { refusal = 0; place = 0; tasks = n; cores = c } ≡ checkedOf o

@@ -2,12 +2,13 @@
 -- Assumes nothing.
 use Prim.Native.Nat.{ℕ}
 use mathlib.Core.Path.{_≡_, sym, ap, _∙_}
+use mathlib.Core.Bool.{false}
 use mathlib.Core.List.{List}
 use native.Mathlib.Omega.{arith}
 use lib.ListN.{take}
 use Rattle.sheet.specs.declared.Refusal.{Refusal}
 use Rattle.sheet.specs.Refusals.{numberOf}
-use Rattle.sheet.specs.Views.{version, figures}
+use Rattle.sheet.specs.Views.{version, isStroked, figures}
 use Rattle.checker.specs.Verdict as check
 use Rattle.checker.proofs.Acceptance.{accepted-exactly}
 use Rattle.checker.proofs.Views.{views-fit}
@@ -29,15 +30,16 @@ runs-alike s t n c e m =
     record {
       check = m .accepts ∙ sym e;
       other = m .other;
+      unstroked = m .unstroked;
       back = m .back;
       answer = agree-answer s t n c e (m .accepts);
       state = agree-state s t n c e (m .accepts) (m .same);
       listing = (accepted-text s n c e, accepted-text t n c (m .accepts) ∙ agree-text (version t) (figures s) (figures t) (m .same) (views-fit s (a .order) .0 (a .fitting) .tasks));
     }
 
--- An accepted sheet and its moved sheet run alike.
-pub moved-alike : (s : List ℕ) (n c : ℕ) → check.verdict s ≡ check.accepted n c → RunsAlike s (moved s)
-moved-alike s n c e = runs-alike s (moved s) n c e (moves s n c e)
+-- An accepted sheet of version 1 or 2 and its moved sheet run alike.
+pub moved-alike : (s : List ℕ) (n c : ℕ) → isStroked s ≡ false → check.verdict s ≡ check.accepted n c → RunsAlike s (moved s)
+moved-alike s n c u e = runs-alike s (moved s) n c e (moves s n c u e)
 
 -- the promise of a move that was written
 pub moved-runs : (v : Moved) (s new : List ℕ) (size : ℕ) → Moving s v new → v ≡ Written size → RunsAlike s (take size new)

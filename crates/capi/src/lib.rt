@@ -16,7 +16,7 @@ ghost use Rattle.row.specs.Row.{outcomeOf, rowOutcome, rowStates, rowBytes};
 ghost use Rattle.row.specs.OnTime.{RowRuns};
 ghost use Rattle.margin.specs.Answers.{marginAnswer};
 ghost use Rattle.margin.specs.Exact.{Exact};
-ghost use Rattle.mover.specs.Answers.{moveAnswer, moveOutput};
+ghost use Rattle.mover.specs.Answers.{moveVerdict, moveAnswer, moveOutput};
 ghost use Rattle.capi.specs.Answers.{checkedOf, plannedOf, listedOf, steppedOf, tickedOf, rowTickedOf, marginedOf, movedOf};
 ghost use Rattle.capi.specs.Moved.{RunsAlike};
 ghost use Rattle.capi.specs.Planned.{RunsOnTime};
@@ -303,8 +303,8 @@ pub extern "C" fn homvaits_margin(jobs: &[u8], number: u64) -> Margined
 // The sheet that is written is accepted, starts and lists as the one that was given, and moved again it gives the same bytes.
 #[no_mangle]
 pub extern "C" fn homvaits_move(sheet: &[u8], out: &mut [u8]) -> MoveAnswer
-    ensures { λ r. ⌜ r ≡ movedOf (moveAnswer (verdict (now (sheet .entry))) (now (sheet .entry)) (length (now (out .entry)))) ⌝ }
-    ensures { λ _. ⌜ now (out .exit) ≡ moveOutput (verdict (now (sheet .entry))) (now (sheet .entry)) (now (out .entry)) ⌝ }
+    ensures { λ r. ⌜ r ≡ movedOf (moveAnswer (moveVerdict (now (sheet .entry))) (now (sheet .entry)) (length (now (out .entry)))) ⌝ }
+    ensures { λ _. ⌜ now (out .exit) ≡ moveOutput (moveVerdict (now (sheet .entry))) (now (sheet .entry)) (now (out .entry)) ⌝ }
     ensures runs_alike { λ r. ⌜ (r .refusal ≡ 0 → RunsAlike (now (sheet .entry)) (take (r .length) (now (out .exit)))) ⌝ }
 {
     let answer = mover::move_sheet(sheet, out);

@@ -1,5 +1,6 @@
--- The bench cards A to Z, small inputs each with what it must give, and the listings of B, C, P and X, as one table about the definitions
--- (docs/SHEET.md, sections 4 to 8 and 11 to 13). N to Q, S to U and W to Z are in no paper; all but T were worked out by hand.
+-- The bench cards A to Z and AA to AD, small inputs each with what it must give, and the listings of B, C, P, X and AB, as one table about
+-- the definitions (docs/SHEET.md, sections 4 to 8 and 11 to 14). N to Q, S to U and W to AD are in no paper; all but T were worked out by
+-- hand.
 use Prim.Native.Nat.{ℕ, _/_, _%_}
 use Prim.Native.String.{String}
 use mathlib.Core.Path.{_≡_}
@@ -16,6 +17,8 @@ use Rattle.fit.specs.Cores.{withinOn}
 use Rattle.checker.specs.Verdict.{verdict}
 use Rattle.checker.specs.Verdict as checker
 use Rattle.mover.specs.Moved.{moved}
+use Rattle.mover.specs.Answers.{moveAnswer, moveVerdict}
+use Rattle.mover.specs.Answers as mover
 use Rattle.jobs.specs.Jobs.{listRows}
 use Rattle.figures.specs.Constructions.{sr, dct}
 use Rattle.figures.specs.Passing.{passes, trials}
@@ -103,6 +106,14 @@ ungrouped =
     ++ (taskOn 0 8 1 2
     ++ (core 4 1
     ++ core 9 2))))))
+
+-- a version 3 sheet of one core: (2,1) with stroke length q and (7,3) with stroke length r, pivot 2, divisor 1 and factors 1 and 3, whose
+-- load is one
+abbrev pub strokedTask : (p e q M : ℕ) → List ℕ
+strokedTask p e q M = p ∷ 0 ∷ e ∷ 0 ∷ 0 ∷ q ∷ M ∷ 0 ∷ 0 ∷ 0 ∷ []
+
+abbrev pub stroked : (q r : ℕ) → List ℕ
+stroked q r = headerOf 3 2 1 ++ (strokedTask 2 1 q 1 ++ (strokedTask 7 3 r 3 ++ core 2 1))
 
 -- seven bytes
 abbrev pub seven : List ℕ
@@ -229,6 +240,32 @@ logL =
 abbrev pub logX : List Entry
 logX = releases 4 ∷ releases 1 ∷ releases 3 ∷ serves 3 ∷ serves 1 ∷ serves 1 ∷ serves 4 ∷ entry tick idle ∷ []
 
+-- a stroke of task 1 delays task 0, which is released inside it, and both end within their w, 2 and 6
+abbrev pub logAB : List Entry
+logAB =
+    releases 1 ∷ serves 1 ∷ releases 0 ∷ serves 1 ∷ serves 0 ∷ releases 0 ∷ serves 0 ∷ serves 1
+    ∷ entry tick idle ∷ []
+
+-- a finish ends the stroke of its own job: the next tick goes to task 0; one of task 0 leaves the stroke of task 1
+abbrev pub logFinish : List Entry
+logFinish = releases 1 ∷ serves 1 ∷ releases 0 ∷ entry (finish 1) accepted ∷ serves 0 ∷ entry tick idle ∷ []
+
+abbrev pub logOther : List Entry
+logOther = releases 1 ∷ serves 1 ∷ releases 0 ∷ entry (finish 0) accepted ∷ serves 1 ∷ serves 1 ∷ entry tick idle ∷ []
+
+-- a state of the core of that sheet, in which task 1 has stroke length q and a job with l ticks left, and a stroke of task j has r ticks left
+abbrev pub inStroke : (q l j r : ℕ) → Core
+inStroke q l j r =
+    record {
+      count = 2;
+      tasks =
+          record { period = 2; budget = 1; age = 2; left = 0; number = 0; stroke = 1 }
+          ∷ record { period = 7; budget = 3; age = 1; left = l; number = 1; stroke = q }
+          ∷ [];
+      «stroke_task» = j;
+      «stroke_left» = r;
+    }
+
 -- the periods of a list in ring order
 abbrev pub ring : List ℕ → ℕ → List ℕ
 ring ps n = map (at ps) (orderBy Ring (at ps) n)
@@ -273,6 +310,15 @@ linesX =
     ∷ "core 1 pivot 9 divisor 2 load 1000"
     ∷ []
 
+-- the listing of card AB
+abbrev pub linesAB : List String
+linesAB =
+    "TSH 3 tasks 2 cores 1"
+    ∷ "task 0 core 0 period 2 budget 1 factor 1 within 2"
+    ∷ "task 1 core 0 period 7 budget 3 factor 3 within 6"
+    ∷ "core 0 pivot 2 divisor 1 load 1000"
+    ∷ []
+
 -- what is answered for each task of a list of three, and for a number that it does not have
 abbrev pub margins : List ℕ → List margin.Outcome
 margins l = map (marginAnswer l) (numbers 0 4)
@@ -296,10 +342,11 @@ logZ k = coreLog (callsAt k callsZ rowZ) (coreAt rowZ k)
 
 -- a state with more tasks than places
 abbrev pub tooMany : Core
-tooMany = record { count = 65; tasks = [] }
+tooMany = record { count = 65; tasks = []; «stroke_task» = 0; «stroke_left» = 0 }
 
 -- The cards. A to F and O to Q are verdicts, G to I, N and R to T plans, J and K runs on the sheet of I, L a run on the bench, M a ring
--- order, U trials, V and W margins, X and Y sheets of version 2, Z a row of both cores of the sheet of X; then the listings.
+-- order, U trials, V and W margins, X and Y sheets of version 2, Z a row of both cores of the sheet of X, AA to AD sheets of version 3 and
+-- their strokes; then the listings.
 pub record Cards : Type 0 where
   pub A : verdict (header 0 0) ≡ checker.accepted 0 0
   pub B : verdict (listed 6 4) ≡ checker.accepted 3 1
@@ -363,7 +410,24 @@ pub record Cards : Type 0 where
       × (rowBytes (rowOutcome (rowRun releasesZ rowZ) 3) (rowRun releasesZ rowZ) bytesZ ≡ 3 ∷ 2 ∷ 0xAA ∷ [])
       × (rowOutcome rowZ 1 ≡ row.refused 24 0)
       × (rowOutcome (coreAt rowZ 0 ∷ tooMany ∷ []) 2 ≡ row.refused 21 1)
+  -- without the blocking term the core fits, and a stroke of three ticks below task 0 leaves it no room
+  pub AA : (verdict (stroked 1 1) ≡ checker.accepted 2 1) × (verdict (stroked 1 3) ≡ checker.refused 14 64)
+  -- a stroke of two ticks does; the runs; and the mover
+  pub AB :
+      (verdict (stroked 1 2) ≡ checker.accepted 2 1)
+      × (onSheet (stroked 1 2) logAB ≡ run logAB)
+      × (onSheet (stroked 1 2) logFinish ≡ run logFinish)
+      × (onSheet (stroked 1 2) logOther ≡ run logOther)
+      × (moveAnswer (moveVerdict (stroked 1 2)) (stroked 1 2) 712 ≡ mover.refused 3 0)
+  -- a stroke length of 0, and of the budget and one
+  pub AC : (verdict (stroked 1 0) ≡ checker.refused 25 1) × (verdict (stroked 1 4) ≡ checker.refused 25 1) × (verdict (stroked 2 4) ≡ checker.refused 25 0)
+  -- A state inside a stroke, then one for each way to break the form: a stroke length of 0 and above the budget; a stroke of a task that is not
+  -- pending and of none; with more ticks left than its length less one and than the job; with a number and no ticks left.
+  pub AD :
+      map (ask tick) (inStroke 2 2 1 1 ∷ inStroke 0 2 0 0 ∷ inStroke 4 2 0 0 ∷ inStroke 2 0 1 1 ∷ inStroke 2 2 5 1 ∷ inStroke 2 2 1 2 ∷ inStroke 3 1 1 2 ∷ inStroke 2 2 1 0 ∷ [])
+      ≡ served 1 ∷ refused 21 0 ∷ refused 21 0 ∷ refused 21 0 ∷ refused 21 0 ∷ refused 21 0 ∷ refused 21 0 ∷ refused 21 0 ∷ []
   pub listingB : listingOf (listed 6 4) ≡ text linesB
   pub listingC : listingOf (listed 7 4) ≡ text linesC
   pub listingP : listingOf nearlyFull ≡ text linesP
   pub listingX : listingOf (grouped 1 4 0 2) ≡ text linesX
+  pub listingAB : listingOf (stroked 1 2) ≡ text linesAB

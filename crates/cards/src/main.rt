@@ -1,13 +1,13 @@
-// Runs the cards of specs/Cards.antt, but for U, which is about the definition of the trials, through the code and prints a line for each
-// (three for R, one a start; for X the verdict, the mover both ways and a run; three for Y), then the listing of the sheets of B, C, P
-// and X.
+// Runs the cards of specs/Cards.antt, but for U, which is about the definition of the trials, Z and AD, through the code and prints a line for
+// each (three for R, one a start; for X the verdict, the mover both ways and a run; three for Y; two for AA; for AB the verdict, three runs and
+// the mover; three for AC), then the listing of the sheets of B, C, P, X and AB.
 ghost use Prim.Native.Nat.{_+_, _*_, _≤_};
 ghost use mathlib.Core.Path.{_≡_};
 ghost use mathlib.Core.Bool.{true};
 ghost use lib.ListN.{length};
 ghost use Rattle.io.specs.Counts.{Counts};
 ghost use Rattle.fit.specs.Fits.{within as withinOf};
-ghost use Rattle.cards.specs.Cards.{header, listed as listedSheet, seven, jobsG, jobsH, jobsI, jobsL, jobsN, jobsR, jobsS, jobsT, jobsV, jobsW, unchained as unchainedSheet, nearlyFull, overfull as overfullSheet, grouped as groupedSheet, ungrouped as ungroupedSheet};
+ghost use Rattle.cards.specs.Cards.{header, listed as listedSheet, seven, jobsG, jobsH, jobsI, jobsL, jobsN, jobsR, jobsS, jobsT, jobsV, jobsW, unchained as unchainedSheet, nearlyFull, overfull as overfullSheet, grouped as groupedSheet, ungrouped as ungroupedSheet, stroked as strokedSheet};
 use checker::Verdict;
 use dispatcher::Answer;
 use dispatcher::Core;
@@ -158,7 +158,18 @@ fn ungrouped() -> [u8; 74]
     *b"TSH\x01\x00\x05\x02\x00\x09\x00\x07\x00\x01\x00\x02\x00\x00\x00\x08\x00\x02\x00\x00\x00\x02\x00\x00\x00\x05\x00\x01\x00\x01\x00\x01\x00\x00\x00\x04\x00\x01\x00\x00\x00\x01\x00\x00\x00\x08\x00\x01\x00\x00\x00\x02\x00\x00\x00\x04\x00\x00\x00\x01\x00\x00\x00\x09\x00\x00\x00\x02\x00\x00\x00"
 }
 
-// Cards A to F, O to Q and Y: what the checker answers.
+// The sheet of cards AA to AC with these stroke lengths.
+fn stroked(q: u8, r: u8) -> [u8; 36]
+    ensures { λ x. ⌜ x ≡ strokedSheet q r ⌝ }
+{
+    let mut sheet =
+        *b"TSH\x03\x00\x02\x01\x00\x02\x00\x01\x00\x00\x00\x01\x00\x00\x00\x07\x00\x03\x00\x00\x00\x03\x00\x00\x00\x02\x00\x00\x00\x01\x00\x00\x00";
+    sheet[13] = q;
+    sheet[23] = r;
+    sheet
+}
+
+// Cards A to F, O to Q, Y, AA and AC: what the checker answers.
 fn check_card(name: &[u8], sheet: &[u8]) {
     print(name);
     let verdict = checker::check(sheet);
@@ -473,6 +484,41 @@ fn card_x() {
     print(b"\n");
 }
 
+// A start of card AB, task 1 with its first tick, and a release of task 0 inside its stroke.
+fn inside_stroke(sheet: &[u8]) -> Core {
+    print(b"AB");
+    let core = after(dispatcher::start_sheet(sheet, 0));
+    let core = after(core.release(1));
+    let core = ticked(core, 1);
+    after(core.release(0))
+}
+
+// The runs of card AB: a stroke that delays task 0, a finish that ends it, and one that leaves it; then the mover.
+fn runs_ab(sheet: &[u8]) {
+    let core = ticked(inside_stroke(sheet), 2);
+    let core = after(core.release(0));
+    ticked(core, 3);
+    print(b"\n");
+    let core = inside_stroke(sheet);
+    ticked(after(core.finish(1)), 2);
+    print(b"\n");
+    let core = inside_stroke(sheet);
+    ticked(after(core.finish(0)), 3);
+    print(b"\nAB");
+    print_moved(sheet, sheet);
+    print(b"\n");
+}
+
+fn cards_aa_to_ac() {
+    check_card(b"AA", &stroked(1, 1));
+    check_card(b"AA", &stroked(1, 3));
+    check_card(b"AB", &stroked(1, 2));
+    runs_ab(&stroked(1, 2));
+    check_card(b"AC", &stroked(1, 0));
+    check_card(b"AC", &stroked(1, 4));
+    check_card(b"AC", &stroked(2, 4));
+}
+
 // The listing of a sheet.
 fn print_listing(sheet: &[u8]) {
     let mut text = [0u8; 8192];
@@ -505,8 +551,10 @@ fn main() {
     check_card(b"Y", &grouped(1, 4, 2, 2));
     check_card(b"Y", &grouped(1, 4, 0, 3));
     check_card(b"Y", &grouped(4, 1, 0, 2));
+    cards_aa_to_ac();
     print_listing(&listed(6, 4));
     print_listing(&listed(7, 4));
     print_listing(&nearly_full());
     print_listing(&grouped(1, 4, 0, 2));
+    print_listing(&stroked(1, 2));
 }

@@ -1,6 +1,6 @@
 -- The verdict is "accepted" exactly when the sheet is acceptable; and what follows for each core.
 -- Assumes nothing.
-use Prim.Native.Nat.{ℕ, _+_, _*_, _<_, zero-le}
+use Prim.Native.Nat.{ℕ, _*_, _<_, zero-le}
 use mathlib.Core.Path.{_≡_, refl, sym, _∙_}
 use mathlib.Core.Logic.{_↔_, _⊎_, inl, inr}
 use mathlib.Core.Bool.{Bool, true, false, _||_, true≢false}
@@ -12,18 +12,19 @@ use borrow.Author.Tests.{ltb-false, le-ltb, leb-false, lt-leb, eqb-true, eqb-fal
 use lib.ListN.{length, getD, drop}
 use lib.Dec.{ltb, eqb}
 use Rattle.sheet.specs.Table.{Row, _at_, scan, whole, core, Refused}
-use Rattle.sheet.specs.Ranges.{outOf, badPeriod, badBudget}
+use Rattle.sheet.specs.Ranges.{outOf, badPeriod, badBudget, badStroke}
 use Rattle.sheet.specs.Records.{Figures, taskCount, coreCount}
-use Rattle.sheet.specs.Views.{version, isGrouped, positionedIn, byPosition}
+use Rattle.sheet.specs.Views.{version, isGrouped, isStroked, positionedIn, byPosition}
 use Rattle.sheet.proofs.Ranges.{neither, in-range, range-in, both}
 use Rattle.sheet.proofs.Scans.{scan-clear, scan-clears, scan-skip, scan-second, scan-none, whole-clear, core-clear}
 use Rattle.fit.specs.Lists.{numbers, find, Each}
 use Rattle.fit.specs.Priority.{order, isOn}
-use Rattle.fit.specs.Fits.{stretched, overloaded}
+use Rattle.fit.specs.Fits.{stretched}
 use Rattle.fit.proofs.Finds.{find-none, none-find, find-some, findSome-none, none-findSome}
 use Rattle.fit.proofs.Firsts.{none-exactly}
 use Rattle.fit.proofs.Lists.{each-of}
 use Rattle.fit.proofs.Levels.{chain-multiples, multiples-chain}
+use Rattle.fit.proofs.Blocking.{levels-fit-exactly}
 use Rattle.views.proofs.Grouped.{in-order, order-in}
 use Rattle.checker.specs.Tests.{isMarked, badVersion, isSet, badOrder, badCore, isNone, bare, badFactor, badPivot, stretchedAt, chainBreakOn, overloadedOn}
 use Rattle.checker.specs.Rules.{offset, frameRows, spareRows, taskRows, coreRows, fitRows, recordRows, partRows, rules}
@@ -60,35 +61,38 @@ offset-clear (some a) e = absurd (Option·some-ne-none _ e)
 
 -- a rule at tasks or cores is kept exactly when its test is false at each
 module _ (q : ℕ → Bool) (n : ℕ) where
-  kept : find q (numbers 0 n) ≡ none → (i : ℕ) → i < n → q i ≡ false
+  pub kept : find q (numbers 0 n) ≡ none → (i : ℕ) → i < n → q i ≡ false
   kept e i h = find-none q 0 n e i zero-le (rw zero-add h)
 
   pub keeps : ((i : ℕ) → i < n → q i ≡ false) → find q (numbers 0 n) ≡ none
   keeps f = none-find q 0 n (λ i a b. f i (rw zero-add at b))
 
--- rules 7 to 9 and 23
-tasks-kept : (out : Bool) (f : Figures) → none ≡ scan (taskRows out f) → (out ≡ false) × TasksInRange f
-unfolding taskRows badPeriod badBudget badCore
+-- rules 7 to 9, 23 and 25
+pub tasks-kept : (out : Bool) (f : Figures) → none ≡ scan (taskRows out f) → (out ≡ false) × TasksInRange f
+unfolding taskRows badPeriod badBudget badStroke badCore
 tasks-kept out f e =
     let a = scan-clear 7 _ _ e in
     let b = scan-clear 8 _ _ (a .1) in
-    let d = scan-clear 23 _ _ (b .1) in
+    let g = scan-clear 25 _ _ (b .1) in
+    let d = scan-clear 23 _ _ (g .1) in
     let c = scan-clear 9 _ _ (d .1) in (
       whole-clear _ (d .0),
       record {
         period = λ i h. in-range 60000 _ (kept (badPeriod (f .period)) _ (a .0) i h);
         budget = λ i h. in-range (f .period i) _ (kept (badBudget (f .period) (f .budget)) _ (b .0) i h);
+        stroke = λ i h. in-range (f .budget i) _ (kept (badStroke (f .budget) (f .stroke)) _ (g .0) i h);
         core = λ i h. leb-false _ _ (kept (badCore (f .cores) (f .core)) _ (c .0) i h);
       },
     )
 
 tasks-keep : (out : Bool) (f : Figures) → out ≡ false → TasksInRange f → scan (taskRows out f) ≡ none
-unfolding taskRows badPeriod badBudget badCore
+unfolding taskRows badPeriod badBudget badStroke badCore
 tasks-keep out f e t =
     row-clear 7 _ _ (keeps (badPeriod (f .period)) _ (λ i h. range-in 60000 _ (t .period i h .0) (t .period i h .1)))
     (row-clear 8 _ _ (keeps (badBudget (f .period) (f .budget)) _ (λ i h. range-in (f .period i) _ (t .budget i h .0) (t .budget i h .1)))
+    (row-clear 25 _ _ (keeps (badStroke (f .budget) (f .stroke)) _ (λ i h. range-in (f .budget i) _ (t .stroke i h .0) (t .stroke i h .1)))
     (row-clear 23 _ _ (whole-none _ e)
-    (row-clear 9 _ _ (keeps (badCore (f .cores) (f .core)) _ (λ i h. lt-leb _ _ (t .core i h))) end-clear)))
+    (row-clear 9 _ _ (keeps (badCore (f .cores) (f .core)) _ (λ i h. lt-leb _ _ (t .core i h))) end-clear))))
 
 -- rule 10: a core has a task exactly when it is not bare
 not-bare : (n : ℕ) (on : ℕ → ℕ) (k : ℕ) → bare n on k ≡ false → (i : ℕ) × (i < n) × (on i ≡ k)
@@ -136,20 +140,20 @@ cores-keep f t =
 
 -- rules 13 and 14
 fits-kept : (f : Figures) → none ≡ scan (fitRows f) → CoresFit f
-unfolding fitRows chainBreakOn overloadedOn overloaded LoadAtMostOne
+unfolding fitRows chainBreakOn overloadedOn LoadAtMostOne
 fits-kept f e =
     let a = scan-clear 13 _ _ e in
     let b = scan-clear 14 _ _ (a .1) in
     record {
       simply-periodic = λ k h. chain-multiples _ 1 _ (findSome-none (chainBreakOn f) 0 (f .cores) (a .0) k zero-le (rw zero-add h));
-      load = λ k h. ltb-false _ _ (kept (overloadedOn f) _ (core-clear _ (b .0)) k h);
+      load = λ k h. levels-fit-exactly _ _ _ _ _ _ .0 (kept (overloadedOn f) _ (core-clear _ (b .0)) k h);
     }
 
 fits-keep : (f : Figures) → CoresFit f → scan (fitRows f) ≡ none
-unfolding fitRows chainBreakOn overloadedOn overloaded LoadAtMostOne
+unfolding fitRows chainBreakOn overloadedOn LoadAtMostOne
 fits-keep f t =
     row-clear 13 _ _ (none-findSome (chainBreakOn f) 0 (f .cores) (λ k a h. multiples-chain _ 1 _ (t .simply-periodic k (rw zero-add at h))))
-    (row-clear 14 _ _ (core-none _ (keeps (overloadedOn f) _ (λ k h. le-ltb _ _ (t .load k h)))) end-clear)
+    (row-clear 14 _ _ (core-none _ (keeps (overloadedOn f) _ (λ k h. levels-fit-exactly _ _ _ _ _ _ .1 (t .load k h)))) end-clear)
 
 -- rule 6: a byte is zero exactly when it is not set
 pub is-zero : (r : List ℕ) (x : ℕ) → isSet r x ≡ false → getD r x 0 ≡ 0
@@ -168,18 +172,20 @@ spares-none : (r l : List ℕ) → Each (λ x. getD r x 0 ≡ 0) l → find (isS
 spares-none r l h = none-exactly (isSet r) l .1 (each-of l (not-set r) h)
 
 -- rule 3
-versioned : (s : List ℕ) → badVersion s ≡ false → (version s ≡ 1) ⊎ (version s ≡ 2)
+versioned : (s : List ℕ) → badVersion s ≡ false → (version s ≡ 1) ⊎ ((version s ≡ 2) ⊎ (version s ≡ 3))
 unfolding badVersion
-versioned s e = by (eqb (version s) 1) refl (not-false _ e)
+versioned s e = by (eqb (version s) 1) (isGrouped s) refl refl (not-false _ e)
   where
-    by : (b : Bool) → eqb (version s) 1 ≡ b → (b || isGrouped s) ≡ true → (version s ≡ 1) ⊎ (version s ≡ 2)
-    by true t h = inl (eqb-true _ _ t)
-    by false t h = inr (eqb-true _ _ h)
+    by : (a b : Bool) → eqb (version s) 1 ≡ a → isGrouped s ≡ b → (a || (b || isStroked s)) ≡ true → (version s ≡ 1) ⊎ ((version s ≡ 2) ⊎ (version s ≡ 3))
+    by true b t g h = inl (eqb-true _ _ t)
+    by false true t g h = inr (inl (eqb-true _ _ g))
+    by false false t g h = inr (inr (eqb-true _ _ h))
 
-version-good : (s : List ℕ) → (version s ≡ 1) ⊎ (version s ≡ 2) → badVersion s ≡ false
+version-good : (s : List ℕ) → (version s ≡ 1) ⊎ ((version s ≡ 2) ⊎ (version s ≡ 3)) → badVersion s ≡ false
 unfolding badVersion
 version-good s (inl e) = rw e
-version-good s (inr e) = rw e
+version-good s (inr (inl e)) = rw e
+version-good s (inr (inr e)) = rw e
 
 -- rules 1 to 5
 pub frame-kept : (s : List ℕ) → none ≡ scan (frameRows s) → Framed s
@@ -224,15 +230,15 @@ accepted-clear s n c e = by (scan (rules s)) e
     by (some r) t = absurd (let z : _≡_ {A = ℕ} 0 1 = cc in omega arith)
 
 -- rule 23, as a row and as a proposition
-pub order-kept : (grouped : Bool) (n c : ℕ) (records : List ℕ) → badOrder grouped (positionedIn grouped n c records) records ≡ false → OrderKept grouped n c records
+pub order-kept : (grouped stroked : Bool) (n c : ℕ) (records : List ℕ) → badOrder grouped (positionedIn grouped stroked n c records) records ≡ false → OrderKept grouped stroked n c records
 unfolding badOrder OrderKept
-order-kept true n c records e g = in-order _ _ _ n c e
-order-kept false n c records e g = absurd (true≢false (sym g))
+order-kept true stroked n c records e g = in-order _ _ _ n c e
+order-kept false stroked n c records e g = absurd (true≢false (sym g))
 
-order-keep : (grouped : Bool) (n c : ℕ) (records : List ℕ) → OrderKept grouped n c records → badOrder grouped (positionedIn grouped n c records) records ≡ false
+order-keep : (grouped stroked : Bool) (n c : ℕ) (records : List ℕ) → OrderKept grouped stroked n c records → badOrder grouped (positionedIn grouped stroked n c records) records ≡ false
 unfolding badOrder OrderKept
-order-keep true n c records h = order-in _ _ _ n c (h refl)
-order-keep false n c records h = refl
+order-keep true stroked n c records h = order-in _ _ _ n c (h refl)
+order-keep false stroked n c records h = refl
 
 -- acceptance, from the table and back
 from-table : (s : List ℕ) → none ≡ scan (rules s) → Acceptable s
@@ -240,8 +246,8 @@ unfolding rules spareRows partRows recordRows Each
 from-table s e =
     let f : Figures = byPosition s in
     let out : Bool = badOrder (isGrouped s) f (drop 8 s) in
-    let a = scan-clears (frameRows s) (spareRows (isGrouped s) (taskCount s) (coreCount s) s (drop 8 s) ++ recordRows out f) e in
-    let b = scan-clears (spareRows (isGrouped s) (taskCount s) (coreCount s) s (drop 8 s)) (recordRows out f) (a .1) in
+    let a = scan-clears (frameRows s) (spareRows (isGrouped s) (isStroked s) (taskCount s) (coreCount s) s (drop 8 s) ++ recordRows out f) e in
+    let b = scan-clears (spareRows (isGrouped s) (isStroked s) (taskCount s) (coreCount s) s (drop 8 s)) (recordRows out f) (a .1) in
     let d = scan-clears (taskRows out f) (coreRows f ++ fitRows f) (b .1) in
     let g = scan-clears (coreRows f) (fitRows f) (d .1) in
     let x = scan-clear 6 (find (isSet s) (7 ∷ [])) _ (b .0) in
@@ -253,10 +259,10 @@ from-table s e =
       spares =
           record {
             header = spared s (7 ∷ []) (x .0) .0;
-            tasks = λ i h. rw (zero-add (10 * i)) at (task-each (λ x. getD (drop 8 s) x 0 ≡ 0) 0 (taskCount s) (spared (drop 8 s) _ (offset-clear _ (y .0))) i h);
+            tasks = λ v i h. rw (zero-add (10 * i)) at (task-each (λ x. getD (drop 8 s) x 0 ≡ 0) (isStroked s) v 0 (taskCount s) (spared (drop 8 s) _ (offset-clear _ (y .0))) i h);
             cores = core-each (λ x. getD (drop 8 s) x 0 ≡ 0) (isGrouped s) (10 * taskCount s) (coreCount s) (spared (drop 8 s) _ (offset-clear _ (z .0)));
           };
-      order = order-kept (isGrouped s) (taskCount s) (coreCount s) (drop 8 s) (t .0);
+      order = order-kept (isGrouped s) (isStroked s) (taskCount s) (coreCount s) (drop 8 s) (t .0);
       fitting = record { tasks = t .1; cores = cores-kept f (g .0); fits = fits-kept f (g .1) };
     }
 
@@ -268,11 +274,11 @@ to-table s t =
     let g : Fitting f = t .fitting in
     let b : SparesZero s = t .spares in
     both-clear (frameRows s) _ (frame-keep s (t .frame))
-    (both-clear (spareRows (isGrouped s) (taskCount s) (coreCount s) s (drop 8 s)) _
+    (both-clear (spareRows (isGrouped s) (isStroked s) (taskCount s) (coreCount s) s (drop 8 s)) _
     (row-clear 6 _ _ (spares-none s (7 ∷ []) (b .header, tt))
-    (row-clear 6 _ _ (offset-none _ (spares-none (drop 8 s) _ (task-all (λ x. getD (drop 8 s) x 0 ≡ 0) 0 (taskCount s) (λ i h. rw (zero-add (10 * i)) (b .tasks i h)))))
+    (row-clear 6 _ _ (offset-none _ (spares-none (drop 8 s) _ (task-all (λ x. getD (drop 8 s) x 0 ≡ 0) (isStroked s) 0 (taskCount s) (λ v i h. rw (zero-add (10 * i)) (b .tasks v i h)))))
     (row-clear 6 _ _ (offset-none _ (spares-none (drop 8 s) _ (core-all (λ x. getD (drop 8 s) x 0 ≡ 0) (isGrouped s) (10 * taskCount s) (coreCount s) (b .cores)))) end-clear)))
-    (both-clear (taskRows out f) _ (tasks-keep out f (order-keep (isGrouped s) (taskCount s) (coreCount s) (drop 8 s) (t .order)) (g .tasks))
+    (both-clear (taskRows out f) _ (tasks-keep out f (order-keep (isGrouped s) (isStroked s) (taskCount s) (coreCount s) (drop 8 s) (t .order)) (g .tasks))
     (both-clear (coreRows f) _ (cores-keep f (g .cores)) (fits-keep f (g .fits)))))
 
 -- The verdict is "accepted with n and c" exactly when the sheet is acceptable and n and c are its counts.

@@ -4,6 +4,7 @@ use Prim.Native.Nat.{ℕ, _-_, _*_, _≤_, _<_}
 use mathlib.Core.Path.{_≡_, sym, ap, _∙_}
 use mathlib.Core.Bool.{Bool}
 use mathlib.Core.List.{List}
+use native.Mathlib.Nat.{le-trans}
 use native.Mathlib.Omega.{arith}
 use lib.ListN.{length, take, drop, length-drop}
 use Rattle.sheet.specs.declared.Refusal.{Refusal}
@@ -12,21 +13,28 @@ use Rattle.sheet.specs.declared.Finding.the-variants.{Clear, Broken}
 use Rattle.sheet.specs.Refusals.{numberOf}
 use Rattle.sheet.specs.Table.{scan, findingOf}
 use Rattle.sheet.specs.Records.{Figures, taskCount, coreCount}
-use Rattle.sheet.specs.Views.{isGrouped}
+use Rattle.sheet.specs.Views.{isGrouped, isStroked}
 use Rattle.sheet.proofs.Scans.{part-hit, part-skip, scan-clears}
 use Rattle.fit.proofs.Lists.{part}
 use Rattle.checker.specs.Rules.{frameRows, spareRows, taskRows, coreRows, partRows, rules}
 use Rattle.checker.specs.declared.Verdict.{Verdict}
 use Rattle.checker.specs.Verdict.{accepted, refused, outcome, outcomeOf, verdict}
 use Rattle.checker.specs.Steps.{InRange, earlyRows}
-use Rattle.checker.proofs.Acceptance.{frame-kept, cores-kept}
+use Rattle.checker.proofs.Acceptance.{frame-kept, tasks-kept, cores-kept}
 
 -- what rule 14 needs, where rules 7 to 12 are kept
 pub clear-range : (b : Bool) (f : Figures) (s : Finding) → f .tasks ≤ 64 → findingOf s ≡ scan (earlyRows b f) → s ≡ Clear → (k : ℕ) → k < f .cores → InRange f k
 unfolding earlyRows
 clear-range b f s n e q k h =
-    let g = cores-kept f (scan-clears (taskRows b f) (coreRows f) (sym (ap findingOf q) ∙ e) .1) in
-    record { count = n; factors = λ i z. g .factor i z .1; divisor = g .divisor k h .1 }
+    let rows = scan-clears (taskRows b f) (coreRows f) (sym (ap findingOf q) ∙ e) in
+    let t = tasks-kept b f (rows .0) .1 in
+    let g = cores-kept f (rows .1) in
+    record {
+      count = n;
+      factors = λ i z. g .factor i z .0;
+      strokes = λ i z. le-trans (t .stroke i z .1) (le-trans (t .budget i z .1) (t .period i z .1));
+      divisor = g .divisor k h .1;
+    }
 
 -- the ways out of all rules, with the code's parts of the sheet
 module _ (s : List ℕ) (r : Finding) (w : Refusal) (p : ℕ) where
@@ -44,19 +52,19 @@ module _ (s : List ℕ) (t : Finding) (n c : ℕ) (frame : findingOf t ≡ scan 
   pub tasks-few : n ≤ 64
   tasks-few = rw en (frame-kept s (sym (ap findingOf clear) ∙ frame) .tasks)
 
-  module _ (r : Finding) (grouped : Bool) (eg : grouped ≡ isGrouped s) (e : findingOf r ≡ scan (spareRows grouped n c s (take (length s - 8) (drop 8 s)))) where
-    spares : findingOf r ≡ scan (spareRows (isGrouped s) (taskCount s) (coreCount s) s (drop 8 s))
-    spares = rw (en, ec, eg, part s 8) at e
+  module _ (r : Finding) (grouped stroked : Bool) (eg : grouped ≡ isGrouped s) (es : stroked ≡ isStroked s) (e : findingOf r ≡ scan (spareRows grouped stroked n c s (take (length s - 8) (drop 8 s)))) where
+    spares : findingOf r ≡ scan (spareRows (isGrouped s) (isStroked s) (taskCount s) (coreCount s) s (drop 8 s))
+    spares = rw (en, ec, eg, es, part s 8) at e
 
     pub spare-broken : (w : Refusal) (p : ℕ) → r ≡ Broken w p → findingOf r ≡ scan (rules s)
     unfolding rules
-    spare-broken w p h = part-skip t (frameRows s) _ _ frame clear (part-hit r (spareRows (isGrouped s) (taskCount s) (coreCount s) s (drop 8 s)) _ w p spares h)
+    spare-broken w p h = part-skip t (frameRows s) _ _ frame clear (part-hit r (spareRows (isGrouped s) (isStroked s) (taskCount s) (coreCount s) s (drop 8 s)) _ w p spares h)
 
-    pub records-found : (q : Finding) → r ≡ Clear → findingOf q ≡ scan (partRows grouped n c (take (length s - 8) (drop 8 s))) → findingOf q ≡ scan (rules s)
+    pub records-found : (q : Finding) → r ≡ Clear → findingOf q ≡ scan (partRows grouped stroked n c (take (length s - 8) (drop 8 s))) → findingOf q ≡ scan (rules s)
     unfolding rules
     records-found q h g =
-        let g′ : findingOf q ≡ scan (partRows (isGrouped s) (taskCount s) (coreCount s) (drop 8 s)) = rw (part s 8, en, ec, eg) at g in
-        part-skip t (frameRows s) _ _ frame clear (part-skip r (spareRows (isGrouped s) (taskCount s) (coreCount s) s (drop 8 s)) _ _ spares h g′)
+        let g′ : findingOf q ≡ scan (partRows (isGrouped s) (isStroked s) (taskCount s) (coreCount s) (drop 8 s)) = rw (part s 8, en, ec, eg, es) at g in
+        part-skip t (frameRows s) _ _ frame clear (part-skip r (spareRows (isGrouped s) (isStroked s) (taskCount s) (coreCount s) s (drop 8 s)) _ _ spares h g′)
 
 -- the two answers, and the verdict
 pub answer-refused : (f : Finding) (w : Refusal) (p n c : ℕ) → f ≡ Broken w p → refused (numberOf w) p ≡ outcome (findingOf f) n c

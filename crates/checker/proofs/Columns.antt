@@ -44,12 +44,12 @@ module _ (core other : ℕ → ℕ) (n c : ℕ) (same : (i : ℕ) → i < n → 
   unfolding bare isOn
   bare-same k = ap isNone (at-tasks _ _ (λ i h. rw (same i h)))
 
-  module _ (tasks cores : List ℕ) where
+  module _ (stroke : ℕ → ℕ) (tasks cores : List ℕ) where
     f : Figures
-    f = figuresWith core n c tasks cores
+    f = figuresWith core stroke n c tasks cores
 
     g : Figures
-    g = figuresWith other n c tasks cores
+    g = figuresWith other stroke n c tasks cores
 
     stretch-same : find (stretchedAt f) (numbers 0 n) ≡ find (stretchedAt g) (numbers 0 n)
     unfolding stretchedAt f g
@@ -67,7 +67,7 @@ module _ (core other : ℕ → ℕ) (n c : ℕ) (same : (i : ℕ) → i < n → 
     unfolding overloadedOn f g
     over-same k = rw (orders-same k)
 
-    pub rows-same : (b : Bool) → recordRows b (figuresWith core n c tasks cores) ≡ recordRows b (figuresWith other n c tasks cores)
+    pub rows-same : (b : Bool) → recordRows b (figuresWith core stroke n c tasks cores) ≡ recordRows b (figuresWith other stroke n c tasks cores)
     unfolding recordRows taskRows coreRows fitRows f g
     rows-same b =
         rw (

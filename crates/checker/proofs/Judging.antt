@@ -6,29 +6,30 @@ use mathlib.Core.Bool.{Bool, true, false, cond}
 use mathlib.Core.Option.{Option, none, some}
 use mathlib.Core.List.{List, []}
 use native.Mathlib.Omega.{arith}
-use native.Mathlib.Nat.{le-trans, sub-zero}
+use native.Mathlib.Nat.{sub-zero}
 use native.Mathlib.Decide.{ℕ-discrete}
-use borrow.Author.Tests.{le-leb, ne-eqb}
-use lib.ListN.{length, take}
+use borrow.Author.Tests.{ne-eqb}
+use lib.ListN.{take}
 use lib.Dec.{eqb}
 use Rattle.sheet.specs.Records.{Figures}
 use Rattle.fit.specs.declared.Order.{Order}
 use Rattle.fit.specs.declared.Chain.{Chain}
 use Rattle.fit.specs.declared.Chain.the-variants.{Whole, Broken}
-use Rattle.fit.specs.Lists.{numbers, find, findSome, at}
+use Rattle.fit.specs.Lists.{numbers, find, findSome, at, Each}
 use Rattle.fit.specs.Priority.{order, tasksOn, Above}
-use Rattle.fit.specs.Fits.{chainBreak, lastFactor, overloaded}
-use Rattle.fit.specs.Answers.{Column, Ordered, chainAnswer, chained, loadInRange}
+use Rattle.fit.specs.Steps.{overFromFirst}
+use Rattle.fit.specs.Answers.{Column, Ordered, chainAnswer, chained}
 use Rattle.fit.proofs.Lists.{each-of}
 use Rattle.fit.proofs.Finds.{front}
-use Rattle.fit.proofs.Priority.{order-members, order-count, order-ext}
+use Rattle.fit.proofs.Priority.{order-members, order-ext}
 use Rattle.fit.proofs.Presorted.{order-sorted}
-use Rattle.fit.proofs.Levels.{load-last}
+use Rattle.fit.proofs.Levels.{chain-multiples}
+use Rattle.fit.proofs.Blocking.{over-exactly}
 use Rattle.checker.specs.declared.fits.Judged.{Judged}
 use Rattle.checker.specs.declared.fits.Judged.the-variants.{Chained, Unchained}
 use Rattle.fit.specs.Cores.{orderOn}
 use Rattle.checker.specs.Tests.{chainBreakOn, overloadedOn}
-use Rattle.checker.specs.Steps.{judged, overInRange, Sorted, InRange, firstOver}
+use Rattle.checker.specs.Steps.{judged, Sorted, InRange, firstOver}
 
 -- where the positions are sorted by the periods of the records, they are by the code's column of them
 pub column-sorted : (f : Figures) (periods : List ℕ) (b : Bool) → Column (f .period) (min (f .tasks) 64) periods → (b ≡ true → Sorted f) → (i j : ℕ) → b ≡ true → i < j → j < min (f .tasks) 64 → f .core i ≡ f .core j → Above (at periods) i j
@@ -44,9 +45,9 @@ unfolding chainAnswer
 answer-broken none L i e = absurd (let z : _≡_ {A = ℕ} 0 1 = cc in omega arith)
 answer-broken (some j) L i e = cc
 
-answer-whole : (o : Option ℕ) (L m : ℕ) → Whole m ≡ chainAnswer o L → (o ≡ none) × (m ≡ L)
+answer-whole : (o : Option ℕ) (L m : ℕ) → Whole m ≡ chainAnswer o L → o ≡ none
 unfolding chainAnswer
-answer-whole none L m e = (refl, cc)
+answer-whole none L m e = refl
 answer-whole (some j) L m e = absurd (let z : _≡_ {A = ℕ} 0 1 = cc in omega arith)
 
 module _ (f : Figures) (k : ℕ) (periods : List ℕ) (o : Order) (chain : Chain) (r : InRange f k) (column : Column (f .period) (min (f .tasks) 64) periods) (s : Ordered (order (at periods) (f .core) k (min (f .tasks) 64)) o) (h : chain ≡ chained (f .factor) (take (o .count) (o .tasks))) where
@@ -60,30 +61,25 @@ module _ (f : Figures) (k : ℕ) (periods : List ℕ) (o : Order) (chain : Chain
   unfolding judged chained chainBreakOn
   judge-broken i e = rw (← listed, answer-broken _ _ i (sym e ∙ h))
 
-  module _ (last : ℕ) (b : Bool) (e : chain ≡ Whole last) (t : b ≡ overInRange (f .budget) (f .factor) (f .pivot k) (f .divisor k) last (take (o .count) (o .tasks))) where
-    whole : (chainBreakOn f k ≡ none) × (last ≡ lastFactor (f .factor) 1 (orderOn f k))
+  module _ (last Q D : ℕ) (b : Bool) (e : chain ≡ Whole last) (eq : Q ≡ f .pivot k) (ed : D ≡ f .divisor k) (t : b ≡ overFromFirst (f .budget) (f .stroke) (f .factor) Q D (take (o .count) (o .tasks))) where
+    whole : chainBreakOn f k ≡ none
     unfolding chained chainBreakOn
-    whole =
-        let l : List ℕ = take (o .count) (o .tasks) in
-        let w : (chainBreak (f .factor) 1 l ≡ none) × (last ≡ lastFactor (f .factor) 1 l) = answer-whole _ _ last (sym e ∙ h) in
-        rw listed at w
+    whole = rw (← listed) (answer-whole _ _ last (sym e ∙ h))
 
-    short : length (orderOn f k) ≤ 64
+    members : Each (λ i. (i < f .tasks) × (f .core i ≡ k)) (orderOn f k)
     unfolding orderOn
-    short = le-trans (order-count (f .period) (f .core) k (f .tasks)) (r .count)
-
-    small : lastFactor (f .factor) 1 (orderOn f k) ≤ 120000
-    unfolding orderOn
-    small = load-last (f .factor) 120000 1 _ (omega arith) (each-of _ (λ i m. r .factors i (m .0)) (order-members (f .period) (f .core) k (f .tasks)))
+    members = order-members (f .period) (f .core) k (f .tasks)
 
     over : b ≡ overloadedOn f k
-    unfolding overInRange overloadedOn overloaded loadInRange
+    unfolding overloadedOn chainBreakOn
     over =
-        t ∙ rw (listed, whole .1, le-leb (f .divisor k) 120000 (r .divisor), le-leb _ 120000 small, le-leb _ 64 short)
+        t
+        ∙ rw (listed, eq, ed)
+        (over-exactly (f .budget) (f .stroke) (f .factor) (f .pivot k) (f .divisor k) 60000 (orderOn f k) (chain-multiples (f .factor) 1 (orderOn f k) whole) (each-of _ (λ i m. r .factors i (m .0)) members) (each-of _ (λ i m. r .strokes i (m .0)) members) (omega (arith, r .divisor)))
 
     pub judge-whole : Chained b ≡ judged (chainBreakOn f k) (overloadedOn f k)
     unfolding judged
-    judge-whole = rw (whole .0, ← over)
+    judge-whole = rw (whole, ← over)
 
 judged-broken : (o : Option ℕ) (b : Bool) (i : ℕ) → Unchained i ≡ judged o b → o ≡ some i
 unfolding judged

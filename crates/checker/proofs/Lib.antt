@@ -12,5 +12,6 @@ pub mod Sound
 pub mod Lowest
 pub mod Refused
 pub mod Grouped
+pub mod Unstroked
 pub mod Long
 pub mod Periodic

@@ -12,7 +12,7 @@ use lib.Dec.{ltb, eqb}
 use Rattle.sheet.specs.Table.{Row, _at_, scan, whole}
 use Rattle.sheet.specs.Numbers.{word}
 use Rattle.sheet.specs.Records.{taskCount, coreCount}
-use Rattle.sheet.specs.Views.{isGrouped}
+use Rattle.sheet.specs.Views.{isGrouped, isStroked}
 use Rattle.sheet.proofs.Ranges.{neither}
 use Rattle.checker.specs.Tests.{isMarked, badVersion}
 use Rattle.checker.specs.Rules.{frameRows, spareRows, partRows, rules}
@@ -27,7 +27,7 @@ overCount s = ltb 64 (taskCount s) || ltb 8 (coreCount s)
 
 long-verdict : (s : List ℕ) → 713 ≤ length s → verdict s ≡ refused (longNumber (not (isMarked s)) (badVersion s) (overCount s)) 0
 unfolding verdict outcome rules frameRows scan whole longNumber overCount
-long-verdict s h = rw (le-ltb (length s) 8 (omega arith)) (by (not (isMarked s)) (badVersion s) (overCount s) refl (spareRows (isGrouped s) (taskCount s) (coreCount s) s (drop 8 s) ++ partRows (isGrouped s) (taskCount s) (coreCount s) (drop 8 s)))
+long-verdict s h = rw (le-ltb (length s) 8 (omega arith)) (by (not (isMarked s)) (badVersion s) (overCount s) refl (spareRows (isGrouped s) (isStroked s) (taskCount s) (coreCount s) s (drop 8 s) ++ partRows (isGrouped s) (isStroked s) (taskCount s) (coreCount s) (drop 8 s)))
   where
     by : (m v c : Bool) → overCount s ≡ c → (rest : List Row) → outcome (scan ((2 at whole m ∷ 3 at whole v ∷ 4 at whole c ∷ 5 at whole (not (eqb (length s) (8 + 10 * taskCount s + 8 * coreCount s))) ∷ []) ++ rest)) (taskCount s) (coreCount s) ≡ refused (longNumber m v c) 0
     by true v c e rest = refl

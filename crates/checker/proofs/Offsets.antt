@@ -8,28 +8,30 @@ use Rattle.fit.specs.Lists.{Each}
 use Rattle.checker.specs.Tests.{taskSpares, coreSpares}
 
 module _ (P : ℕ → Type 0) where
-  -- of n task records from offset a on
-  pub task-all : (a n : ℕ) → ((i : ℕ) → i < n → P (a + 10 * i + 5)) → Each P (taskSpares a n)
+  -- of n task records from offset a on, where there are any
+  pub task-all : (stroked : Bool) (a n : ℕ) → (stroked ≡ false → (i : ℕ) → i < n → P (a + 10 * i + 5)) → Each P (taskSpares stroked a n)
   unfolding taskSpares Each
-  task-all a zero f = tt
-  task-all a (suc n) f =
+  task-all true a n f = tt
+  task-all false a zero f = tt
+  task-all false a (suc n) f =
       let z : a + 10 * 0 + 5 ≡ a + 5 = omega arith in
-      (rw z at (f 0 (omega arith)), task-all (a + 10) n next)
+      (rw z at (f refl 0 (omega arith)), task-all false (a + 10) n next)
     where
-      next : (i : ℕ) → i < n → P (a + 10 + 10 * i + 5)
-      next i h =
+      next : false ≡ false → (i : ℕ) → i < n → P (a + 10 + 10 * i + 5)
+      next v i h =
           let z : a + 10 * suc i + 5 ≡ a + 10 + 10 * i + 5 = omega arith in
-          rw z at (f (suc i) (omega arith))
+          rw z at (f refl (suc i) (omega arith))
 
-  pub task-each : (a n : ℕ) → Each P (taskSpares a n) → (i : ℕ) → i < n → P (a + 10 * i + 5)
+  pub task-each : (stroked : Bool) → stroked ≡ false → (a n : ℕ) → Each P (taskSpares stroked a n) → (i : ℕ) → i < n → P (a + 10 * i + 5)
   unfolding taskSpares Each
-  task-each a zero h i q = absurd (omega arith)
-  task-each a (suc n) h zero q =
+  task-each true v a n h i q = absurd (true≢false v)
+  task-each false v a zero h i q = absurd (omega arith)
+  task-each false v a (suc n) h zero q =
       let z : a + 10 * 0 + 5 ≡ a + 5 = omega arith in
       rw z (h .0)
-  task-each a (suc n) h (suc i) q =
+  task-each false v a (suc n) h (suc i) q =
       let z : a + 10 * suc i + 5 ≡ a + 10 + 10 * i + 5 = omega arith in
-      rw z (task-each (a + 10) n (h .1) i (omega arith))
+      rw z (task-each false v (a + 10) n (h .1) i (omega arith))
 
   -- of c core records from offset a on
   next : (grouped : Bool) (a c : ℕ) → ((k : ℕ) → k < suc c → (grouped ≡ false → P (a + 8 * k + 2)) × P (a + 8 * k + 3)) → (k : ℕ) → k < c → (grouped ≡ false → P (a + 8 + 8 * k + 2)) × P (a + 8 + 8 * k + 3)

@@ -7,11 +7,11 @@ use mathlib.Core.Logic.{_↔_}
 use mathlib.Core.List.{List}
 use lib.ListN.{drop}
 use Rattle.sheet.specs.Records.{Figures, taskCount, coreCount}
-use Rattle.sheet.specs.Views.{isGrouped, byPosition}
+use Rattle.sheet.specs.Views.{isGrouped, isStroked, byPosition}
 use Rattle.fit.specs.Lists.{Each}
 use Rattle.fit.specs.Fits.{Multiples}
 use Rattle.fit.specs.Cores.{orderOn}
-use Rattle.fit.specs.Periodic.{AcceleratedSet, Rising}
+use Rattle.fit.specs.Periodic.{AcceleratedSet, BlockedSet, Rising}
 use Rattle.fit.proofs.Lists.{each-of, each-occurs}
 use Rattle.fit.proofs.Priority.{order-members, order-holds}
 use Rattle.fit.proofs.Periodic.{paper-exactly}
@@ -26,11 +26,11 @@ module _ (f : Figures) (r : FiguresInRange f) where
   members k = order-members (f .period) (f .core) k (f .tasks)
 
   -- of one core
-  core-exactly : (k : ℕ) → k < f .cores → (AcceleratedSet (f .period) (f .budget) (f .factor) (f .pivot k) (f .divisor k) (orderOn f k) × Rising (f .factor) (f .pivot k) (f .divisor k) (orderOn f k)) ↔ (Each (λ i. f .pivot k * f .factor i ≤ f .period i * f .divisor k) (orderOn f k) × Multiples (f .factor) 1 (orderOn f k) × LoadAtMostOne f k)
+  core-exactly : (k : ℕ) → k < f .cores → (AcceleratedSet (f .period) (f .budget) (f .factor) (f .pivot k) (f .divisor k) (orderOn f k) × BlockedSet (f .budget) (f .stroke) (f .factor) (f .pivot k) (f .divisor k) (orderOn f k) × Rising (f .factor) (f .pivot k) (f .divisor k) (orderOn f k)) ↔ (Each (λ i. f .pivot k * f .factor i ≤ f .period i * f .divisor k) (orderOn f k) × Multiples (f .factor) 1 (orderOn f k) × LoadAtMostOne f k)
   unfolding LoadAtMostOne
-  core-exactly k h = paper-exactly (f .period) (f .budget) (f .factor) (f .pivot k) (f .divisor k) (r .pivot k h .0) (r .divisor k h .0) (orderOn f k) (each-of (orderOn f k) (λ i m. r .factor i (m .0) .0) (members k))
+  core-exactly k h = paper-exactly (f .period) (f .budget) (f .stroke) (f .factor) (f .pivot k) (f .divisor k) (r .pivot k h .0) (r .divisor k h .0) (orderOn f k) (each-of (orderOn f k) (λ i m. r .factor i (m .0) .0) (members k))
 
-  -- Where rules 7 to 11 are kept, rules 12, 13 and 14 are kept exactly when every core's tasks are such a set.
+  -- Where rules 7 to 11 and 25 are kept, rules 12, 13 and 14 are kept exactly when every core's tasks are such a set.
   pub cores-exactly : (((i : ℕ) → i < f .tasks → f .pivot (f .core i) * f .factor i ≤ f .period i * f .divisor (f .core i)) × CoresFit f) ↔ CoresAccelerated f
   unfolding CoresAccelerated orderOn
   cores-exactly = (to, back)
@@ -44,7 +44,7 @@ module _ (f : Figures) (r : FiguresInRange f) where
         record { simply-periodic = λ k h. core-exactly k h .0 (g k h) .1; load = λ k h. core-exactly k h .0 (g k h) .2 },
       )
 
--- The figures fit exactly when rules 7 to 11 are kept and every core's tasks are such a set.
+-- The figures fit exactly when rules 7 to 11 and 25 are kept and every core's tasks are such a set.
 pub fitting-exactly : (f : Figures) → Fitting f ↔ (FiguresInRange f × CoresAccelerated f)
 fitting-exactly f = (to, back)
   where
@@ -61,7 +61,7 @@ fitting-exactly f = (to, back)
 
 -- The verdict is "accepted with n and c" exactly when the sheet has its form, its order and those counts, and all this holds of its
 -- figures.
-pub accepted-periodic : (s : List ℕ) (n c : ℕ) → (verdict s ≡ accepted n c) ↔ (Framed s × SparesZero s × OrderKept (isGrouped s) (taskCount s) (coreCount s) (drop 8 s) × FiguresInRange (byPosition s) × CoresAccelerated (byPosition s) × (n ≡ taskCount s) × (c ≡ coreCount s))
+pub accepted-periodic : (s : List ℕ) (n c : ℕ) → (verdict s ≡ accepted n c) ↔ (Framed s × SparesZero s × OrderKept (isGrouped s) (isStroked s) (taskCount s) (coreCount s) (drop 8 s) × FiguresInRange (byPosition s) × CoresAccelerated (byPosition s) × (n ≡ taskCount s) × (c ≡ coreCount s))
 accepted-periodic s n c = (
   (λ v. let (a, en, ec) = accepted-exactly s n c .0 v in let (r, g) = fitting-exactly (byPosition s) .0 (a .fitting) in (a .frame, a .spares, a .order, r, g, en, ec)),
   (λ t. accepted-exactly s n c .1 (record { frame = t .0; spares = t .1; order = t .2; fitting = fitting-exactly (byPosition s) .1 (t .3, t .4) }, t .5, t .6)),

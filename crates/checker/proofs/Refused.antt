@@ -1,21 +1,21 @@
 -- The verdict is a refusal k at place x exactly when k is the first broken rule, at x; and what rules 6 and 13 say by that.
 -- Assumes nothing.
 use Prim.Native.Nat.{ℕ}
-use mathlib.Core.Path.{_≡_, refl, sym, subst}
+use mathlib.Core.Path.{_≡_, refl, sym, ap, subst}
 use mathlib.Core.Logic.{_↔_}
 use mathlib.Core.Bool.{Bool, false}
-use mathlib.Core.Option.{Option, none, some}
-use mathlib.Core.List.{List, [], _∷_, _++_}
+use mathlib.Core.Option.{Option, none, some, Option·map}
+use mathlib.Core.List.{List, [], _∷_, _++_, append-assoc}
 use native.Mathlib.Omega.{arith}
 use lib.ListN.{drop}
 use Rattle.sheet.specs.Table.{Row, Refused, _at_, scan, AllKept, FirstBroken, hasRule}
 use Rattle.sheet.specs.Records.{Figures, taskCount, coreCount}
-use Rattle.sheet.specs.Views.{isGrouped}
+use Rattle.sheet.specs.Views.{isGrouped, isStroked, byPosition}
 use Rattle.sheet.proofs.Exactly.{scan-exactly, scan-kept, part-exactly, row-exactly}
 use Rattle.fit.specs.Lists.{numbers, findSome}
 use Rattle.fit.proofs.Firsts.{findSome-exactly, break-exactly}
 use Rattle.fit.proofs.Levels.{chain-multiples, multiples-chain}
-use Rattle.checker.specs.Tests.{chainBreakOn}
+use Rattle.checker.specs.Tests.{badOrder, chainBreakOn}
 use Rattle.checker.specs.Rules.{frameRows, spareRows, taskRows, coreRows, fitRows, recordRows, partRows, rules}
 use Rattle.checker.specs.Verdict.{refused, outcome, verdict}
 use Rattle.checker.specs.Accepted.{Framed}
@@ -52,20 +52,36 @@ rule-exactly s k x before o after e a b =
       (λ t. refused-exactly s k x .1 (subst (λ (rows : List Row). FirstBroken rows k x) (sym e) (part .1 (t .0, row .1 (t .1))))),
     )
 
+-- one rule is not another
+pub other-rule : {A : Type 0} (j y k x : ℕ) → (j ≡ k → ⊥) → _≡_ {A = Option Refused} (some (record { number = j; place = y })) (some (record { number = k; place = x })) → A
+other-rule j y k x n e =
+    let w : some j ≡ some k = ap (Option·map (λ (r : Refused). r .number)) e in
+    absurd (n cc)
+
+-- A rule that stands in the rows of the tasks alone is given by them.
+pub tasks-found : (s : List ℕ) (k x : ℕ) → hasRule k (frameRows s ++ spareRows (isGrouped s) (isStroked s) (taskCount s) (coreCount s) s (drop 8 s)) ≡ false → hasRule k (coreRows (byPosition s) ++ fitRows (byPosition s)) ≡ false → verdict s ≡ refused k x → scan (taskRows (badOrder (isGrouped s) (byPosition s) (drop 8 s)) (byPosition s)) ≡ some (record { number = k; place = x })
+unfolding rules partRows recordRows
+tasks-found s k x a b v =
+    let f : Figures = byPosition s in
+    let out : Bool = badOrder (isGrouped s) f (drop 8 s) in
+    let spares : List Row = spareRows (isGrouped s) (isStroked s) (taskCount s) (coreCount s) s (drop 8 s) in
+    let all : FirstBroken ((frameRows s ++ spares) ++ recordRows out f) k x = subst (λ (rows : List Row). FirstBroken rows k x) (sym (append-assoc (frameRows s) spares (recordRows out f))) (refused-exactly s k x .0 v) in
+    scan-exactly (taskRows out f) k x .1 (part-exactly (frameRows s ++ spares) (taskRows out f) (coreRows f ++ fitRows f) k x a b .0 all .1)
+
 -- rule 6 stands in the spare rows alone
 frame-other : (s : List ℕ) → hasRule 6 (frameRows s) ≡ false
 unfolding frameRows hasRule
 frame-other s = refl
 
-records-other : (grouped : Bool) (n c : ℕ) (records : List ℕ) → hasRule 6 (partRows grouped n c records) ≡ false
+records-other : (grouped stroked : Bool) (n c : ℕ) (records : List ℕ) → hasRule 6 (partRows grouped stroked n c records) ≡ false
 unfolding partRows recordRows taskRows coreRows fitRows hasRule
-records-other grouped n c records = refl
+records-other grouped stroked n c records = refl
 
 -- Rule 6: the verdict is 6 at x exactly when rules 1 to 5 are kept and x is the lowest offset of a spare byte that is not 0.
 pub spare-exactly : (s : List ℕ) (x : ℕ) → (verdict s ≡ refused 6 x) ↔ (Framed s × LowestSpare s x)
 unfolding rules
 spare-exactly s x =
-    let part = part-exactly (frameRows s) (spareRows (isGrouped s) (taskCount s) (coreCount s) s (drop 8 s)) (partRows (isGrouped s) (taskCount s) (coreCount s) (drop 8 s)) 6 x (frame-other s) (records-other (isGrouped s) (taskCount s) (coreCount s) (drop 8 s)) in (
+    let part = part-exactly (frameRows s) (spareRows (isGrouped s) (isStroked s) (taskCount s) (coreCount s) s (drop 8 s)) (partRows (isGrouped s) (isStroked s) (taskCount s) (coreCount s) (drop 8 s)) 6 x (frame-other s) (records-other (isGrouped s) (isStroked s) (taskCount s) (coreCount s) (drop 8 s)) in (
       (λ v. let t = part .0 (refused-exactly s 6 x .0 v) in (frame-kept s (sym (scan-kept (frameRows s) .1 (t .0))), spare-rows-exactly s x .0 (t .1))),
       (λ t. refused-exactly s 6 x .1 (part .1 (scan-kept (frameRows s) .0 (frame-keep s (t .0)), spare-rows-exactly s x .1 (t .1)))),
     )

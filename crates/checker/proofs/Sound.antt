@@ -1,4 +1,4 @@
--- One pass over the tasks: where every task keeps rules 7, 8, 9, 11 and 12, those rows of the table are clear.
+-- One pass over the tasks: where every task keeps rules 7, 8, 25, 9, 11 and 12, those rows of the table are clear.
 -- Assumes nothing.
 use Prim.Native.Nat.{ℕ, _+_, _≤_, _<_}
 use mathlib.Core.Path.{_≡_, refl, sym, ap, _∙_}
@@ -13,7 +13,7 @@ use lib.Arith.{lt-of-le-ne}
 use Rattle.sheet.specs.declared.Refusal.{Refusal}
 use Rattle.sheet.specs.declared.Finding.{Finding}
 use Rattle.sheet.specs.declared.Finding.the-variants.{Clear, Broken}
-use Rattle.sheet.specs.Ranges.{badPeriod, badBudget}
+use Rattle.sheet.specs.Ranges.{badPeriod, badBudget, badStroke}
 use Rattle.sheet.specs.Records.{Figures}
 use Rattle.sheet.specs.Table.{Refused, _at_, scan, whole, findingOf}
 use Rattle.sheet.proofs.Ranges.{neither}
@@ -45,6 +45,7 @@ below-end f n i h b j q = b .sound j (omega arith)
 record Parts (f : Figures) (i : ℕ) : Type 0 where
   period : badPeriod (f .period) i ≡ false
   budget : badBudget (f .period) (f .budget) i ≡ false
+  stroke : badStroke (f .budget) (f .stroke) i ≡ false
   core : badCore (f .cores) (f .core) i ≡ false
   factor : badFactor (f .factor) i ≡ false
   stretch : stretchedAt f i ≡ false
@@ -52,11 +53,12 @@ record Parts (f : Figures) (i : ℕ) : Type 0 where
 parts : (f : Figures) (i : ℕ) → soundAt f i ≡ true → Parts f i
 unfolding soundAt
 parts f i e =
-    let a = neither (badPeriod (f .period) i || badBudget (f .period) (f .budget) i || (badCore (f .cores) (f .core) i || badFactor (f .factor) i)) (stretchedAt f i) (not-true _ e) in
-    let b = neither (badPeriod (f .period) i || badBudget (f .period) (f .budget) i) (badCore (f .cores) (f .core) i || badFactor (f .factor) i) (a .0) in
-    let c = neither (badPeriod (f .period) i) (badBudget (f .period) (f .budget) i) (b .0) in
+    let a = neither (badPeriod (f .period) i || (badBudget (f .period) (f .budget) i || badStroke (f .budget) (f .stroke) i) || (badCore (f .cores) (f .core) i || badFactor (f .factor) i)) (stretchedAt f i) (not-true _ e) in
+    let b = neither (badPeriod (f .period) i || (badBudget (f .period) (f .budget) i || badStroke (f .budget) (f .stroke) i)) (badCore (f .cores) (f .core) i || badFactor (f .factor) i) (a .0) in
+    let c = neither (badPeriod (f .period) i) (badBudget (f .period) (f .budget) i || badStroke (f .budget) (f .stroke) i) (b .0) in
+    let g = neither (badBudget (f .period) (f .budget) i) (badStroke (f .budget) (f .stroke) i) (c .1) in
     let d = neither (badCore (f .cores) (f .core) i) (badFactor (f .factor) i) (b .1) in
-    record { period = c .0; budget = c .1; core = d .0; factor = d .1; stretch = a .1 }
+    record { period = c .0; budget = g .0; stroke = g .1; core = d .0; factor = d .1; stretch = a .1 }
 
 module _ (f : Figures) (all : (i : ℕ) → i < f .tasks → soundAt f i ≡ true) where
   clear : (q : ℕ → Bool) → ((i : ℕ) → Parts f i → q i ≡ false) → none ≡ find q (numbers 0 (f .tasks))
@@ -68,11 +70,11 @@ module _ (f : Figures) (all : (i : ℕ) → i < f .tasks → soundAt f i ≡ tru
   pub stretch-clear : none ≡ find (stretchedAt f) (numbers 0 (f .tasks))
   stretch-clear = clear (stretchedAt f) (λ i p. p .stretch)
 
-  -- rules 7 and 8 are clear before rule 23, and rule 9 after it
+  -- rules 7, 8 and 25 are clear before rule 23, and rule 9 after it
   to-order : (b : Bool) (x : Option Refused) → x ≡ scan (23 at whole b ∷ 9 at find (badCore (f .cores) (f .core)) (numbers 0 (f .tasks)) ∷ []) → x ≡ scan (taskRows b f)
   unfolding taskRows
   to-order b x e =
-      scan-skip 7 _ _ x (clear (badPeriod (f .period)) (λ i p. p .period)) (scan-skip 8 _ _ x (clear (badBudget (f .period) (f .budget)) (λ i p. p .budget)) e)
+      scan-skip 7 _ _ x (clear (badPeriod (f .period)) (λ i p. p .period)) (scan-skip 8 _ _ x (clear (badBudget (f .period) (f .budget)) (λ i p. p .budget)) (scan-skip 25 _ _ x (clear (badStroke (f .budget) (f .stroke)) (λ i p. p .stroke)) e))
 
   pub early-misordered : (b : Bool) → b ≡ true → some (record { number = 23; place = 0 }) ≡ scan (earlyRows b f)
   unfolding earlyRows
@@ -87,7 +89,7 @@ module _ (f : Figures) (all : (i : ℕ) → i < f .tasks → soundAt f i ≡ tru
   unfolding earlyRows
   early-fast b r h e = scan-second (taskRows b f) (coreRows f) _ (tasks-clear b h) e
 
--- the ways out of rules 7 to 12 and 23, one group after the other
+-- the ways out of rules 7 to 12, 23 and 25, one group after the other
 module _ (b : Bool) (f : Figures) where
   pub early-broken : (r : Finding) (w : Refusal) (p : ℕ) → findingOf r ≡ scan (taskRows b f) → r ≡ Broken w p → findingOf r ≡ scan (earlyRows b f)
   unfolding earlyRows

@@ -1,7 +1,7 @@
 -- Rule 6, step by step as the code goes over the spare bytes.
 -- Assumes nothing.
 use Prim.Native.Nat.{ℕ, suc, _+_, _-_, _≤_, _<_}
-use mathlib.Core.Path.{_≡_, sym, _∙_}
+use mathlib.Core.Path.{_≡_, refl, sym, _∙_}
 use mathlib.Core.Bool.{Bool, true, false, not, _&&_, false≢true}
 use mathlib.Core.Option.{none, some}
 use mathlib.Core.List.{List, [], _∷_}
@@ -40,24 +40,28 @@ done : (s l : List ℕ) → To s l [] → none ≡ scan (6 at offset (find (isSe
 unfolding scan offset find
 done s l k = rw (k .same)
 
--- in the task records
-pub task-start : (s : List ℕ) (n : ℕ) → To s (taskSpares 0 n) (taskSpares 0 (n - 0))
-task-start s n = record { same = rw (sub-zero n) }
+-- in the task records, where byte 5 is spare
+pub task-none : (s : List ℕ) (n : ℕ) (stroked : Bool) → stroked ≡ true → none ≡ scan (6 at offset (find (isSet s) (taskSpares stroked 0 n)) ∷ [])
+unfolding taskSpares
+task-none s n stroked h = rw h (done s [] (record { same = refl }))
 
-module _ (s l : List ℕ) (n i a r : ℕ) (h : i < n) (k : To s l (taskSpares a (n - i))) (e : r ≡ getD s (a + 5) 0) where
-  tasks-left : To s l ((a + 5) ∷ taskSpares (a + 10) (n - (i + 1)))
+pub task-start : (s : List ℕ) (n : ℕ) (stroked : Bool) → stroked ≡ false → To s (taskSpares stroked 0 n) (taskSpares false 0 (n - 0))
+task-start s n stroked h = record { same = rw (sub-zero n, h) }
+
+module _ (s l : List ℕ) (n i a r : ℕ) (h : i < n) (k : To s l (taskSpares false a (n - i))) (e : r ≡ getD s (a + 5) 0) where
+  tasks-left : To s l ((a + 5) ∷ taskSpares false (a + 10) (n - (i + 1)))
   unfolding taskSpares
   tasks-left =
       let q : n - i ≡ suc (n - (i + 1)) = omega arith in
       rw q at k
 
   pub task-hit : (r ≡ 0 → ⊥) → some (record { number = 6; place = 8 + (a + 5) }) ≡ scan (6 at offset (find (isSet s) l) ∷ [])
-  task-hit z = hit s l (taskSpares (a + 10) (n - (i + 1))) (a + 5) r tasks-left e z
+  task-hit z = hit s l (taskSpares false (a + 10) (n - (i + 1))) (a + 5) r tasks-left e z
 
-  pub task-turn : r ≡ 0 → To s l (taskSpares (a + 10) (n - (i + 1)))
-  task-turn z = turn s l (taskSpares (a + 10) (n - (i + 1))) (a + 5) r tasks-left e z
+  pub task-turn : r ≡ 0 → To s l (taskSpares false (a + 10) (n - (i + 1)))
+  task-turn z = turn s l (taskSpares false (a + 10) (n - (i + 1))) (a + 5) r tasks-left e z
 
-pub task-end : (s l : List ℕ) (n i a : ℕ) → n ≤ i → To s l (taskSpares a (n - i)) → none ≡ scan (6 at offset (find (isSet s) l) ∷ [])
+pub task-end : (s l : List ℕ) (n i a : ℕ) → n ≤ i → To s l (taskSpares false a (n - i)) → none ≡ scan (6 at offset (find (isSet s) l) ∷ [])
 unfolding taskSpares
 task-end s l n i a h k =
     let q : n - i ≡ 0 = omega arith in

@@ -9,16 +9,17 @@ use native.Mathlib.Nat.{le-trans}
 use native.Mathlib.Omega.{arith}
 use lib.ListN.{drop}
 use Rattle.sheet.specs.Records.{Figures, numberAt, countAt, taskCount, coreCount}
-use Rattle.sheet.specs.Views.{isGrouped, positionOfNumber, numberOfPosition, positionedIn, renumbered, byPosition, figures}
+use Rattle.sheet.specs.Views.{isGrouped, isStroked, positionOfNumber, numberOfPosition, positionedIn, renumbered, byPosition, figures}
 use Rattle.fit.specs.Lists.{Each}
 use Rattle.fit.specs.Priority.{order}
 use Rattle.fit.specs.Cores.{orderOn}
 use Rattle.fit.proofs.Lists.{each-of, each-both}
 use Rattle.fit.proofs.Priority.{order-members, order-count, order-rising}
-use Rattle.fit.proofs.Levels.{multiples-pairs, level-load, budget-within, within-period}
+use Rattle.fit.proofs.Levels.{multiples-pairs, within-period}
+use Rattle.fit.proofs.Blocking.{levels-fit-exactly, budget-within}
 use Rattle.views.specs.Renamed.{Renamed, Agree}
 use Rattle.views.proofs.ByNumber.{position-below}
-use Rattle.views.proofs.Renamed.{renamed-multiples, multiples-renamed, renamed-full, renamed-load, view-renamed, agree-renamed}
+use Rattle.views.proofs.Renamed.{renamed-multiples, multiples-renamed, renamed-levels, view-renamed, agree-renamed}
 use Rattle.checker.specs.Verdict.{accepted, verdict}
 use Rattle.checker.specs.Accepted.{LoadAtMostOne, TasksInRange, CoresInRange, CoresFit, Fitting, OrderKept, Schedulable, CoreOf}
 use Rattle.checker.proofs.Acceptance.{accepted-exactly}
@@ -27,11 +28,11 @@ use Rattle.checker.proofs.Acceptance.{accepted-exactly}
 module _ (f g : Figures) (r : ℕ → ℕ) (s : Renamed f g r) where
   load-to : (k : ℕ) → k < f .cores → LoadAtMostOne f k → LoadAtMostOne g k
   unfolding LoadAtMostOne
-  load-to k h t = rw (renamed-load f g r s k h, renamed-full f g r s k h) t
+  load-to k h t = levels-fit-exactly _ _ _ _ _ _ .0 (renamed-levels f g r s k h ∙ levels-fit-exactly _ _ _ _ _ _ .1 t)
 
   load-back : (k : ℕ) → k < f .cores → LoadAtMostOne g k → LoadAtMostOne f k
   unfolding LoadAtMostOne
-  load-back k h t = rw (renamed-load f g r s k h, renamed-full f g r s k h) at t
+  load-back k h t = levels-fit-exactly _ _ _ _ _ _ .0 (sym (renamed-levels f g r s k h) ∙ levels-fit-exactly _ _ _ _ _ _ .1 t)
 
   renamed-fits : Fitting f → Fitting g
   renamed-fits t = record { tasks = tasks; cores = cores; fits = fits }
@@ -46,6 +47,7 @@ module _ (f g : Figures) (r : ℕ → ℕ) (s : Renamed f g r) where
       tasks = record {
         period = each (λ i. (1 ≤ g .period i) × (g .period i ≤ 60000)) (λ j a. rw (s .period j a) (t .tasks .period j a));
         budget = each (λ i. (1 ≤ g .budget i) × (g .budget i ≤ g .period i)) (λ j a. rw (s .budget j a, s .period j a) (t .tasks .budget j a));
+        stroke = each (λ i. (1 ≤ g .stroke i) × (g .stroke i ≤ g .budget i)) (λ j a. rw (s .stroke j a, s .budget j a) (t .tasks .stroke j a));
         core = each (λ i. g .core i < g .cores) (λ j a. rw (s .core j a, s .cores) (t .tasks .core j a));
       }
 
@@ -77,6 +79,7 @@ module _ (f g : Figures) (r : ℕ → ℕ) (s : Renamed f g r) where
       tasks = record {
         period = λ j a. rw (s .period j a) at (t .tasks .period (r j) (at-task j a));
         budget = λ j a. rw (s .budget j a, s .period j a) at (t .tasks .budget (r j) (at-task j a));
+        stroke = λ j a. rw (s .stroke j a, s .budget j a) at (t .tasks .stroke (r j) (at-task j a));
         core = λ j a. rw (s .core j a, s .cores) at (t .tasks .core (r j) (at-task j a));
       }
 
@@ -103,26 +106,26 @@ pub agree-fits : (f g : Figures) → Agree f g → Fitting f ↔ Fitting g
 agree-fits f g s = renamed-exactly f g (λ i. i) (agree-renamed f g s)
 
 -- the views of a sheet whose records are in order
-pub views-renamed : (grouped : Bool) (n c : ℕ) (records : List ℕ) → OrderKept grouped n c records → Renamed (positionedIn grouped n c records) (renumbered (positionOfNumber grouped n records) (positionedIn grouped n c records)) (numberOfPosition grouped records)
+pub views-renamed : (grouped stroked : Bool) (n c : ℕ) (records : List ℕ) → OrderKept grouped stroked n c records → Renamed (positionedIn grouped stroked n c records) (renumbered (positionOfNumber grouped n records) (positionedIn grouped stroked n c records)) (numberOfPosition grouped records)
 unfolding OrderKept
-views-renamed true n c records h = view-renamed (positionedIn true n c records) (numberAt records) (positionedIn true n c records .core) (countAt (drop (10 * n) records)) refl (h refl)
-views-renamed false n c records h = agree-renamed (positionedIn false n c records) (positionedIn false n c records) (record { tasks = refl; cores = refl; period = λ i b. refl; budget = λ i b. refl; core = λ i b. refl; factor = λ i b. refl; pivot = λ k b. refl; divisor = λ k b. refl })
+views-renamed true stroked n c records h = view-renamed (positionedIn true stroked n c records) (numberAt records) (positionedIn true stroked n c records .core) (countAt (drop (10 * n) records)) refl (h refl)
+views-renamed false stroked n c records h = agree-renamed (positionedIn false stroked n c records) (positionedIn false stroked n c records) (record { tasks = refl; cores = refl; period = λ i b. refl; budget = λ i b. refl; core = λ i b. refl; stroke = λ i b. refl; factor = λ i b. refl; pivot = λ k b. refl; divisor = λ k b. refl })
 
 -- a task whose number is below n stands at a position below n
-pub position-in : (grouped : Bool) (n c : ℕ) (records : List ℕ) → OrderKept grouped n c records → (i : ℕ) → i < n → positionOfNumber grouped n records i < n
+pub position-in : (grouped stroked : Bool) (n c : ℕ) (records : List ℕ) → OrderKept grouped stroked n c records → (i : ℕ) → i < n → positionOfNumber grouped n records i < n
 unfolding OrderKept
-position-in true n c records h i q = position-below (numberAt records) n (h refl .numbers) i q
-position-in false n c records h i q = q
+position-in true stroked n c records h i q = position-below (numberAt records) n (h refl .numbers) i q
+position-in false stroked n c records h i q = q
 
-pub sheet-renamed : (s : List ℕ) → OrderKept (isGrouped s) (taskCount s) (coreCount s) (drop 8 s) → Renamed (byPosition s) (figures s) (numberOfPosition (isGrouped s) (drop 8 s))
-sheet-renamed s h = views-renamed (isGrouped s) (taskCount s) (coreCount s) (drop 8 s) h
+pub sheet-renamed : (s : List ℕ) → OrderKept (isGrouped s) (isStroked s) (taskCount s) (coreCount s) (drop 8 s) → Renamed (byPosition s) (figures s) (numberOfPosition (isGrouped s) (drop 8 s))
+sheet-renamed s h = views-renamed (isGrouped s) (isStroked s) (taskCount s) (coreCount s) (drop 8 s) h
 
 -- The figures of a sheet whose records are in order fit by position exactly when they fit by task number.
-pub views-fit : (s : List ℕ) → OrderKept (isGrouped s) (taskCount s) (coreCount s) (drop 8 s) → Fitting (byPosition s) ↔ Fitting (figures s)
+pub views-fit : (s : List ℕ) → OrderKept (isGrouped s) (isStroked s) (taskCount s) (coreCount s) (drop 8 s) → Fitting (byPosition s) ↔ Fitting (figures s)
 views-fit s h = renamed-exactly (byPosition s) (figures s) (numberOfPosition (isGrouped s) (drop 8 s)) (sheet-renamed s h)
 
 -- what a dispatcher may rely on, for core k of figures that fit
-schedulable : (f : Figures) (k : ℕ) → f .tasks ≤ 64 → k < f .cores → Fitting f → Schedulable (f .period) (f .budget) (f .factor) (f .pivot k) (f .divisor k) (orderOn f k)
+schedulable : (f : Figures) (k : ℕ) → f .tasks ≤ 64 → k < f .cores → Fitting f → Schedulable (f .period) (f .budget) (f .stroke) (f .factor) (f .pivot k) (f .divisor k) (orderOn f k)
 unfolding orderOn LoadAtMostOne
 schedulable f k n h g =
     let l : List ℕ = order (f .period) (f .core) k (f .tasks) in
@@ -135,12 +138,13 @@ schedulable f k n h g =
       order = order-rising (f .period) (f .core) k (f .tasks);
       period = each-of l (λ i m. g .tasks .period i (m .0)) members;
       budget = each-of l (λ i m. g .tasks .budget i (m .0)) members;
+      stroke = each-of l (λ i m. g .tasks .stroke i (m .0)) members;
       factor = positive;
       divisor = g .cores .divisor k h .0;
       accelerated = fast;
       multiples = multiples-pairs (f .factor) 1 l (g .fits .simply-periodic k h);
-      level = level-load (f .budget) (f .factor) (f .divisor k) (f .pivot k) l (g .fits .simply-periodic k h) positive (g .fits .load k h);
-      bounds = each-both l (λ i a b. (a, b)) (budget-within (f .budget) (f .factor) (f .divisor k) (f .pivot k) l (g .fits .simply-periodic k h) positive (g .fits .load k h) (g .cores .divisor k h .0)) (each-of l (λ i a. within-period (f .pivot k) (f .divisor k) (f .factor i) (f .period i) a) fast);
+      level = g .fits .load k h;
+      bounds = each-both l (λ i a b. (a, b)) (budget-within (f .budget) (f .stroke) (f .factor) (f .pivot k) (f .divisor k) l (g .cores .divisor k h .0) positive (g .fits .load k h)) (each-of l (λ i a. within-period (f .pivot k) (f .divisor k) (f .factor i) (f .period i) a) fast);
     }
 
 -- The acceptance contract: all that a dispatcher uses of an accepted sheet.

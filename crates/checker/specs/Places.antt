@@ -5,15 +5,15 @@ use mathlib.Core.Bool.{false}
 use mathlib.Core.List.{List}
 use lib.ListN.{getD}
 use Rattle.sheet.specs.Records.{Figures, taskCount, coreCount}
-use Rattle.sheet.specs.Views.{isGrouped}
+use Rattle.sheet.specs.Views.{isGrouped, isStroked}
 use Rattle.fit.specs.Fits.{Multiples}
 use Rattle.fit.specs.Firsts.{FirstBreak}
 use Rattle.fit.specs.Cores.{orderOn}
 
--- byte x of a sheet is spare: byte 7, byte 5 of a task record, byte 3 of a core record, or in version 1 byte 2 of one
+-- byte x of a sheet is spare: byte 7, byte 5 of a task record but in version 3, byte 3 of a core record, or byte 2 of one but in version 2
 pub data SpareOffset (s : List ℕ) (x : ℕ) : Type 0 where
   header : x ≡ 7 → SpareOffset s x
-  task : (i : ℕ) → i < taskCount s → x ≡ 8 + 10 * i + 5 → SpareOffset s x
+  task : (i : ℕ) → i < taskCount s → isStroked s ≡ false → x ≡ 8 + 10 * i + 5 → SpareOffset s x
   core-low : (k : ℕ) → k < coreCount s → isGrouped s ≡ false → x ≡ 8 + 10 * taskCount s + 8 * k + 2 → SpareOffset s x
   core-high : (k : ℕ) → k < coreCount s → x ≡ 8 + 10 * taskCount s + 8 * k + 3 → SpareOffset s x
 

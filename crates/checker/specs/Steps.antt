@@ -1,17 +1,16 @@
 -- What the code's own steps ask and give; no public contract speaks of it.
-use Prim.Native.Nat.{ℕ, _*_, _≤_, _<_}
+use Prim.Native.Nat.{ℕ, _≤_, _<_}
 use mathlib.Core.List.{List, _++_}
 use Rattle.sheet.specs.Table.{Row}
-use lib.Dec.{ltb, eqb}
-use Rattle.fit.specs.Answers.{loadInRange}
+use lib.Dec.{eqb}
 use Rattle.fit.specs.Priority.{Above}
 use mathlib.Core.Path.{_≡_}
 use mathlib.Core.Bool.{Bool, cond, not, _||_}
 use mathlib.Core.Option.{Option, none, some}
-use Rattle.sheet.specs.Ranges.{badPeriod, badBudget}
+use Rattle.sheet.specs.Ranges.{badPeriod, badBudget, badStroke}
 use Rattle.sheet.specs.Records.{Figures}
 use Rattle.checker.specs.declared.early.Test.{Test}
-use Rattle.checker.specs.declared.early.Test.the-variants.{Period, Budget, Core, Bare, Factor, Pivot, Stretch}
+use Rattle.checker.specs.declared.early.Test.the-variants.{Period, Budget, Stroke, Core, Bare, Factor, Pivot, Stretch}
 use Rattle.checker.specs.declared.fits.Judged.{Judged}
 use Rattle.checker.specs.declared.fits.Judged.the-variants.{Chained, Unchained}
 use Rattle.checker.specs.Rules.{taskRows, coreRows}
@@ -21,6 +20,7 @@ use Rattle.checker.specs.Tests.{badCore, bare, badFactor, badPivot, stre
 abbrev pub broken : Test → Figures → ℕ → Bool
 broken Period f = badPeriod (f .period)
 broken Budget f = badBudget (f .period) (f .budget)
+broken Stroke f = badStroke (f .budget) (f .stroke)
 broken Core f = badCore (f .cores) (f .core)
 broken Bare f = bare (f .tasks) (f .core)
 broken Factor f = badFactor (f .factor)
@@ -36,25 +36,22 @@ judged (some i) over = Unchained i
 unfoldable pub firstOver : ℕ → ℕ → Bool → ℕ
 firstOver found k over = cond over (cond (eqb found 255) k found) found
 
--- task i keeps rules 7, 8, 9, 11 and 12
+-- task i keeps rules 7, 8, 25, 9, 11 and 12
 unfoldable pub soundAt : Figures → ℕ → Bool
 soundAt f i =
-    not ((badPeriod (f .period) i || badBudget (f .period) (f .budget) i || (badCore (f .cores) (f .core) i || badFactor (f .factor) i)) || stretchedAt f i)
+    not ((badPeriod (f .period) i || (badBudget (f .period) (f .budget) i || badStroke (f .budget) (f .stroke) i) || (badCore (f .cores) (f .core) i || badFactor (f .factor) i)) || stretchedAt f i)
 
--- rules 7 to 12 and 23 of the table
+-- rules 7 to 12, 23 and 25 of the table
 unfoldable pub earlyRows : Bool → Figures → List Row
 earlyRows misordered f = taskRows misordered f ++ coreRows f
-
--- load above one, by the sum that the code makes with last factor L
-unfoldable pub overInRange : (ℕ → ℕ) → (ℕ → ℕ) → ℕ → ℕ → ℕ → List ℕ → Bool
-overInRange e M Q D L l = ltb (Q * L) (loadInRange e M D L l)
 
 -- the positions on each core rise in priority, so that they need no sort
 unfoldable pub Sorted : Figures → Type 0
 Sorted f = (i j : ℕ) → i < j → j < f .tasks → f .core i ≡ f .core j → Above (f .period) i j
 
--- what rule 14's sum needs of core k: at most 64 tasks, D and every M at most 120,000
+-- what rule 14's one pass needs of core k: at most 64 tasks, every M positive, every stroke at most 60,000 ticks and D at most 120,000
 pub record InRange (f : Figures) (k : ℕ) : Type 0 where
   pub count : f .tasks ≤ 64
-  pub factors : (i : ℕ) → i < f .tasks → f .factor i ≤ 120000
+  pub factors : (i : ℕ) → i < f .tasks → 0 < f .factor i
+  pub strokes : (i : ℕ) → i < f .tasks → f .stroke i ≤ 60000
   pub divisor : f .divisor k ≤ 120000

@@ -1,10 +1,11 @@
-// Rules 7 to 12 and 23: the figures of tasks and cores.
+// Rules 7 to 12, 23 and 25: the figures of tasks and cores.
 ghost use mathlib.Core.Path.{_≡_};
 ghost use mathlib.Core.Bool.{true};
 ghost use Prim.Native.Nat.{ℕ, _<_};
 ghost use Rattle.sheet.specs.Table.{scan, foundOf, findingOf};
-ghost use Rattle.sheet.specs.Ranges.{badPeriod, badBudget};
+ghost use Rattle.sheet.specs.Ranges.{badPeriod, badBudget, badStroke};
 ghost use Rattle.sheet.specs.Records.{periodAt, budgetAt, factorAt, pivotAt, divisorAt, figuresWith};
+ghost use Rattle.sheet.specs.Views.{strokeOfPosition};
 ghost use Rattle.fit.specs.Lists.{numbers, find, at};
 ghost use Rattle.checker.specs.Tests.{badCore, bare, badFactor, badPivot, stretchedAt};
 ghost use Rattle.checker.specs.Rules.{taskRows, coreRows};
@@ -17,6 +18,7 @@ use sheet::Refusal;
 enum Test {
     Period,
     Budget,
+    Stroke,
     Core,
     Bare,
     Factor,
@@ -25,7 +27,7 @@ enum Test {
 }
 
 // The tests, each at one task or one core. `tasks` is the sheet's part from byte 8, `cores` its part after the last task, `on` the core
-// of each position.
+// of each position, and `stroked` whether byte 5 is a stroke length.
 
 fn bad_period(tasks: &[u8], i: u8) -> bool
     ensures { λ r. ⌜ r ≡ badPeriod (periodAt (now (tasks .entry))) i ⌝ }
@@ -39,6 +41,14 @@ fn bad_budget(tasks: &[u8], i: u8) -> bool
     let p = sheet::period(tasks, i);
     let e = sheet::budget(tasks, i);
     sheet::out_of(p as u32, e as u32)
+}
+
+fn bad_stroke(stroked: bool, tasks: &[u8], i: u8) -> bool
+    ensures { λ r. ⌜ r ≡ badStroke (budgetAt (now (tasks .entry))) (strokeOfPosition stroked (now (tasks .entry))) i ⌝ }
+{
+    let e = sheet::budget(tasks, i);
+    let q = sheet::stroke(stroked, tasks, i);
+    sheet::out_of(e as u32, q as u32)
 }
 
 fn bad_core(on: &[u8], c: u8, i: u8) -> bool
@@ -74,8 +84,8 @@ fn bad_pivot(cores: &[u8], k: u8) -> bool
     q | d
 }
 
-fn is_stretched(tasks: &[u8], cores: &[u8], on: &[u8], n: u8, c: u8, i: u8) -> bool
-    ensures { λ r. ⌜ r ≡ stretchedAt (figuresWith (at (now (on .entry))) n c (now (tasks .entry)) (now (cores .entry))) i ⌝ }
+fn is_stretched(stroked: bool, tasks: &[u8], cores: &[u8], on: &[u8], n: u8, c: u8, i: u8) -> bool
+    ensures { λ r. ⌜ r ≡ stretchedAt (figuresWith (at (now (on .entry))) (strokeOfPosition stroked (now (tasks .entry))) n c (now (tasks .entry)) (now (cores .entry))) i ⌝ }
 {
     let k = sheet::byte(on, i as usize);
     let reach = fit::product(sheet::pivot(cores, k), sheet::factor(tasks, i));
@@ -83,27 +93,46 @@ fn is_stretched(tasks: &[u8], cores: &[u8], on: &[u8], n: u8, c: u8, i: u8) -> b
 }
 
 // Whether a rule is broken at a task or core.
-fn is_broken(test: Test, tasks: &[u8], cores: &[u8], on: &[u8], n: u8, c: u8, i: u8) -> bool
-    ensures { λ r. ⌜ r ≡ broken test (figuresWith (at (now (on .entry))) n c (now (tasks .entry)) (now (cores .entry))) i ⌝ }
+fn is_broken(
+    test: Test,
+    stroked: bool,
+    tasks: &[u8],
+    cores: &[u8],
+    on: &[u8],
+    n: u8,
+    c: u8,
+    i: u8,
+) -> bool
+    ensures { λ r. ⌜ r ≡ broken test (figuresWith (at (now (on .entry))) (strokeOfPosition stroked (now (tasks .entry))) n c (now (tasks .entry)) (now (cores .entry))) i ⌝ }
 {
     match test {
         Test::Period => bad_period(tasks, i),
         Test::Budget => bad_budget(tasks, i),
+        Test::Stroke => bad_stroke(stroked, tasks, i),
         Test::Core => bad_core(on, c, i),
         Test::Bare => is_bare(on, n, i),
         Test::Factor => bad_factor(tasks, i),
         Test::Pivot => bad_pivot(cores, i),
-        Test::Stretch => is_stretched(tasks, cores, on, n, c, i),
+        Test::Stretch => is_stretched(stroked, tasks, cores, on, n, c, i),
     }
 }
 
 // The first of `end` tasks or cores at which a rule is broken.
-fn first(test: Test, tasks: &[u8], cores: &[u8], on: &[u8], n: u8, c: u8, end: u8) -> Found
-    ensures { λ r. ⌜ foundOf r ≡ find (broken test (figuresWith (at (now (on .entry))) n c (now (tasks .entry)) (now (cores .entry)))) (numbers 0 end) ⌝ }
+fn first(
+    test: Test,
+    stroked: bool,
+    tasks: &[u8],
+    cores: &[u8],
+    on: &[u8],
+    n: u8,
+    c: u8,
+    end: u8,
+) -> Found
+    ensures { λ r. ⌜ foundOf r ≡ find (broken test (figuresWith (at (now (on .entry))) (strokeOfPosition stroked (now (tasks .entry))) n c (now (tasks .entry)) (now (cores .entry)))) (numbers 0 end) ⌝ }
 {
     let mut i = 0;
     while i < end {
-        if is_broken(test, tasks, cores, on, n, c, i) {
+        if is_broken(test, stroked, tasks, cores, on, n, c, i) {
             return Found::At(i);
         }
         i += 1;
@@ -111,22 +140,34 @@ fn first(test: Test, tasks: &[u8], cores: &[u8], on: &[u8], n: u8, c: u8, end: u
     Found::Nothing
 }
 
-// Rules 7, 8, 23 and 9.
-fn task_rules(tasks: &[u8], cores: &[u8], on: &[u8], n: u8, c: u8, misordered: bool) -> Finding
-    ensures { λ r. ⌜ findingOf r ≡ scan (taskRows misordered (figuresWith (at (now (on .entry))) n c (now (tasks .entry)) (now (cores .entry)))) ⌝ }
+// Rules 7, 8, 25, 23 and 9.
+fn task_rules(
+    stroked: bool,
+    tasks: &[u8],
+    cores: &[u8],
+    on: &[u8],
+    n: u8,
+    c: u8,
+    misordered: bool,
+) -> Finding
+    ensures { λ r. ⌜ findingOf r ≡ scan (taskRows misordered (figuresWith (at (now (on .entry))) (strokeOfPosition stroked (now (tasks .entry))) n c (now (tasks .entry)) (now (cores .entry)))) ⌝ }
 {
-    let period = first(Test::Period, tasks, cores, on, n, c, n);
+    let period = first(Test::Period, stroked, tasks, cores, on, n, c, n);
     if let Found::At(i) = period {
         return Finding::Broken(Refusal::Period, i as u16);
     }
-    let budget = first(Test::Budget, tasks, cores, on, n, c, n);
+    let budget = first(Test::Budget, stroked, tasks, cores, on, n, c, n);
     if let Found::At(i) = budget {
         return Finding::Broken(Refusal::Budget, i as u16);
+    }
+    let stroke = first(Test::Stroke, stroked, tasks, cores, on, n, c, n);
+    if let Found::At(i) = stroke {
+        return Finding::Broken(Refusal::Stroke, i as u16);
     }
     if misordered {
         return Finding::Broken(Refusal::Order, 0);
     }
-    let core = first(Test::Core, tasks, cores, on, n, c, n);
+    let core = first(Test::Core, stroked, tasks, cores, on, n, c, n);
     if let Found::At(i) = core {
         return Finding::Broken(Refusal::Core, i as u16);
     }
@@ -134,44 +175,45 @@ fn task_rules(tasks: &[u8], cores: &[u8], on: &[u8], n: u8, c: u8, misordered: b
 }
 
 // Rules 10 to 12.
-fn core_rules(tasks: &[u8], cores: &[u8], on: &[u8], n: u8, c: u8) -> Finding
-    ensures { λ r. ⌜ findingOf r ≡ scan (coreRows (figuresWith (at (now (on .entry))) n c (now (tasks .entry)) (now (cores .entry)))) ⌝ }
+fn core_rules(stroked: bool, tasks: &[u8], cores: &[u8], on: &[u8], n: u8, c: u8) -> Finding
+    ensures { λ r. ⌜ findingOf r ≡ scan (coreRows (figuresWith (at (now (on .entry))) (strokeOfPosition stroked (now (tasks .entry))) n c (now (tasks .entry)) (now (cores .entry)))) ⌝ }
 {
-    let bare = first(Test::Bare, tasks, cores, on, n, c, c);
+    let bare = first(Test::Bare, stroked, tasks, cores, on, n, c, c);
     if let Found::At(k) = bare {
         return Finding::Broken(Refusal::Bare, 64 + (k as u16));
     }
-    let factor = first(Test::Factor, tasks, cores, on, n, c, n);
+    let factor = first(Test::Factor, stroked, tasks, cores, on, n, c, n);
     if let Found::At(i) = factor {
         return Finding::Broken(Refusal::Factor, i as u16);
     }
-    let pivot = first(Test::Pivot, tasks, cores, on, n, c, c);
+    let pivot = first(Test::Pivot, stroked, tasks, cores, on, n, c, c);
     if let Found::At(k) = pivot {
         return Finding::Broken(Refusal::Factor, 64 + (k as u16));
     }
-    let stretch = first(Test::Stretch, tasks, cores, on, n, c, n);
+    let stretch = first(Test::Stretch, stroked, tasks, cores, on, n, c, n);
     if let Found::At(i) = stretch {
         return Finding::Broken(Refusal::Stretch, i as u16);
     }
     Finding::Clear
 }
 
-// Whether rules 7, 8, 9, 11 and 12 are all kept at task i.
-fn is_sound(tasks: &[u8], cores: &[u8], on: &[u8], n: u8, c: u8, i: u8) -> bool
-    ensures { λ r. ⌜ r ≡ soundAt (figuresWith (at (now (on .entry))) n c (now (tasks .entry)) (now (cores .entry))) i ⌝ }
+// Whether rules 7, 8, 25, 9, 11 and 12 are all kept at task i.
+fn is_sound(stroked: bool, tasks: &[u8], cores: &[u8], on: &[u8], n: u8, c: u8, i: u8) -> bool
+    ensures { λ r. ⌜ r ≡ soundAt (figuresWith (at (now (on .entry))) (strokeOfPosition stroked (now (tasks .entry))) n c (now (tasks .entry)) (now (cores .entry))) i ⌝ }
 {
-    let ranges = bad_period(tasks, i) | bad_budget(tasks, i);
+    let job = bad_budget(tasks, i) | bad_stroke(stroked, tasks, i);
+    let ranges = bad_period(tasks, i) | job;
     let figures = bad_core(on, c, i) | bad_factor(tasks, i);
-    !((ranges | figures) | is_stretched(tasks, cores, on, n, c, i))
+    !((ranges | figures) | is_stretched(stroked, tasks, cores, on, n, c, i))
 }
 
 // Whether they are kept at every task.
-fn all_sound(tasks: &[u8], cores: &[u8], on: &[u8], n: u8, c: u8) -> bool
-    ensures { λ r. ⌜ (r ≡ true → (i : ℕ) → i < n → soundAt (figuresWith (at (now (on .entry))) n c (now (tasks .entry)) (now (cores .entry))) i ≡ true) ⌝ }
+fn all_sound(stroked: bool, tasks: &[u8], cores: &[u8], on: &[u8], n: u8, c: u8) -> bool
+    ensures { λ r. ⌜ (r ≡ true → (i : ℕ) → i < n → soundAt (figuresWith (at (now (on .entry))) (strokeOfPosition stroked (now (tasks .entry))) n c (now (tasks .entry)) (now (cores .entry))) i ≡ true) ⌝ }
 {
     let mut i = 0;
     while i < n {
-        if !is_sound(tasks, cores, on, n, c, i) {
+        if !is_sound(stroked, tasks, cores, on, n, c, i) {
             return false;
         }
         i += 1;
@@ -180,23 +222,24 @@ fn all_sound(tasks: &[u8], cores: &[u8], on: &[u8], n: u8, c: u8) -> bool
 }
 
 // Rules 10 to 12 where every task keeps its rules: 10 and 11 at the cores are left.
-fn bare_rules(tasks: &[u8], cores: &[u8], on: &[u8], n: u8, c: u8) -> Finding
-    requires { ⌜ ((i : ℕ) → i < n → soundAt (figuresWith (at (now on)) n c (now tasks) (now cores)) i ≡ true) ⌝ }
-    ensures { λ r. ⌜ findingOf r ≡ scan (coreRows (figuresWith (at (now (on .entry))) n c (now (tasks .entry)) (now (cores .entry)))) ⌝ }
+fn bare_rules(stroked: bool, tasks: &[u8], cores: &[u8], on: &[u8], n: u8, c: u8) -> Finding
+    requires { ⌜ ((i : ℕ) → i < n → soundAt (figuresWith (at (now on)) (strokeOfPosition stroked (now tasks)) n c (now tasks) (now cores)) i ≡ true) ⌝ }
+    ensures { λ r. ⌜ findingOf r ≡ scan (coreRows (figuresWith (at (now (on .entry))) (strokeOfPosition stroked (now (tasks .entry))) n c (now (tasks .entry)) (now (cores .entry)))) ⌝ }
 {
-    let bare = first(Test::Bare, tasks, cores, on, n, c, c);
+    let bare = first(Test::Bare, stroked, tasks, cores, on, n, c, c);
     if let Found::At(k) = bare {
         return Finding::Broken(Refusal::Bare, 64 + (k as u16));
     }
-    let pivot = first(Test::Pivot, tasks, cores, on, n, c, c);
+    let pivot = first(Test::Pivot, stroked, tasks, cores, on, n, c, c);
     if let Found::At(k) = pivot {
         return Finding::Broken(Refusal::Factor, 64 + (k as u16));
     }
     Finding::Clear
 }
 
-// Rules 7 to 12 and 23. Most sheets keep all rules at their tasks: one pass tells.
+// Rules 7 to 12, 23 and 25. Most sheets keep all rules at their tasks: one pass tells.
 pub(crate) fn early_rules(
+    stroked: bool,
     tasks: &[u8],
     cores: &[u8],
     on: &[u8],
@@ -204,17 +247,17 @@ pub(crate) fn early_rules(
     c: u8,
     misordered: bool,
 ) -> Finding
-    ensures { λ r. ⌜ findingOf r ≡ scan (earlyRows misordered (figuresWith (at (now (on .entry))) n c (now (tasks .entry)) (now (cores .entry)))) ⌝ }
+    ensures { λ r. ⌜ findingOf r ≡ scan (earlyRows misordered (figuresWith (at (now (on .entry))) (strokeOfPosition stroked (now (tasks .entry))) n c (now (tasks .entry)) (now (cores .entry)))) ⌝ }
 {
-    if all_sound(tasks, cores, on, n, c) {
+    if all_sound(stroked, tasks, cores, on, n, c) {
         if misordered {
             return Finding::Broken(Refusal::Order, 0);
         }
-        return bare_rules(tasks, cores, on, n, c);
+        return bare_rules(stroked, tasks, cores, on, n, c);
     }
-    let found = task_rules(tasks, cores, on, n, c, misordered);
+    let found = task_rules(stroked, tasks, cores, on, n, c, misordered);
     if let Finding::Broken(_, _) = found {
         return found;
     }
-    core_rules(tasks, cores, on, n, c)
+    core_rules(stroked, tasks, cores, on, n, c)
 }

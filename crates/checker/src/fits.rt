@@ -3,30 +3,23 @@ ghost use mathlib.Core.Path.{_≡_};
 ghost use mathlib.Core.Bool.{true};
 ghost use Prim.Native.Nat.{ℕ, _<_, min};
 ghost use Rattle.sheet.specs.Table.{scan, findingOf};
-ghost use Rattle.sheet.specs.Records.{periodAt, budgetAt, factorAt, pivotAt, divisorAt, figuresWith};
+ghost use Rattle.sheet.specs.Records.{periodAt, figuresWith};
+ghost use Rattle.sheet.specs.Views.{strokeOfPosition};
 ghost use Rattle.fit.specs.Lists.{at};
 ghost use Rattle.fit.specs.Priority.{order, Above};
 ghost use Rattle.fit.specs.Answers.{Column, Ordered};
 ghost use Rattle.checker.specs.Tests.{chainBreakOn, overloadedOn};
 ghost use Rattle.checker.specs.Rules.{fitRows};
-ghost use Rattle.checker.specs.Steps.{judged, overInRange, Sorted, InRange, firstOver};
+ghost use Rattle.checker.specs.Steps.{judged, Sorted, InRange, firstOver};
 use fit::Chain;
 use fit::Order;
 use sheet::Finding;
 use sheet::Refusal;
 
-// What rules 13 and 14 say of a core: its chain is whole, and its load is over one or not, or its chain is broken at a task.
+// What rules 13 and 14 say of a core: its chain is whole, and the load at some task is over one or not, or its chain is broken at a task.
 enum Judged {
     Chained { over: bool },
     Unchained(u8),
-}
-
-// Whether the load of the listed tasks of core k, whose last factor is given, is above one.
-fn is_over(tasks: &[u8], cores: &[u8], list: &[u8], k: u8, last: u32) -> bool
-    ensures { λ r. ⌜ r ≡ overInRange (budgetAt (now (tasks .entry))) (factorAt (now (tasks .entry))) (pivotAt (now (cores .entry)) k) (divisorAt (now (cores .entry)) k) last (now (list .entry)) ⌝ }
-{
-    let load = fit::load_of(tasks, list, sheet::divisor(cores, k), last);
-    fit::product(sheet::pivot(cores, k), last) < load
 }
 
 // The tasks of core k in priority order. Where the positions are sorted already, they are taken as they stand.
@@ -43,6 +36,7 @@ fn order_of(sorted: bool, periods: &[u16], on: &[u8], n: u8, k: u8) -> Order
 // Rules 13 and 14 at core k.
 fn judge(
     sorted: bool,
+    stroked: bool,
     periods: &[u16],
     tasks: &[u8],
     cores: &[u8],
@@ -51,17 +45,19 @@ fn judge(
     c: u8,
     k: u8,
 ) -> Judged
-    requires { ⌜ InRange (figuresWith (at (now on)) n c (now tasks) (now cores)) k × Column (periodAt (now tasks)) (min n 64) (now periods) × (sorted ≡ true → Sorted (figuresWith (at (now on)) n c (now tasks) (now cores))) ⌝ }
-    ensures { λ r. ⌜ r ≡ judged (chainBreakOn (figuresWith (at (now (on .entry))) n c (now (tasks .entry)) (now (cores .entry))) k) (overloadedOn (figuresWith (at (now (on .entry))) n c (now (tasks .entry)) (now (cores .entry))) k) ⌝ }
+    requires { ⌜ InRange (figuresWith (at (now on)) (strokeOfPosition stroked (now tasks)) n c (now tasks) (now cores)) k × Column (periodAt (now tasks)) (min n 64) (now periods) × (sorted ≡ true → Sorted (figuresWith (at (now on)) (strokeOfPosition stroked (now tasks)) n c (now tasks) (now cores))) ⌝ }
+    ensures { λ r. ⌜ r ≡ judged (chainBreakOn (figuresWith (at (now (on .entry))) (strokeOfPosition stroked (now (tasks .entry))) n c (now (tasks .entry)) (now (cores .entry))) k) (overloadedOn (figuresWith (at (now (on .entry))) (strokeOfPosition stroked (now (tasks .entry))) n c (now (tasks .entry)) (now (cores .entry))) k) ⌝ }
 {
     let order = order_of(sorted, periods, on, n, k);
     let count = order.count;
     let list = order.tasks;
     let chain = fit::chain_of(tasks, &list[..count]);
+    let pivot = sheet::pivot(cores, k);
+    let divisor = sheet::divisor(cores, k);
     match chain {
         Chain::Broken(i) => Judged::Unchained(i),
-        Chain::Whole(last) => Judged::Chained {
-            over: is_over(tasks, cores, &list[..count], k, last),
+        Chain::Whole(_) => Judged::Chained {
+            over: fit::is_over(tasks, &list[..count], stroked, pivot, divisor),
         },
     }
 }
@@ -81,20 +77,21 @@ fn first_over(found: u8, k: u8, over: bool) -> u8
 // Rules 13 and 14. A broken chain of any core comes before every overload.
 pub(crate) fn fit_rules(
     sorted: bool,
+    stroked: bool,
     tasks: &[u8],
     cores: &[u8],
     on: &[u8],
     n: u8,
     c: u8,
 ) -> Finding
-    requires { ⌜ ((k : ℕ) → k < c → InRange (figuresWith (at (now on)) n c (now tasks) (now cores)) k) × (sorted ≡ true → Sorted (figuresWith (at (now on)) n c (now tasks) (now cores))) ⌝ }
-    ensures { λ r. ⌜ findingOf r ≡ scan (fitRows (figuresWith (at (now (on .entry))) n c (now (tasks .entry)) (now (cores .entry)))) ⌝ }
+    requires { ⌜ ((k : ℕ) → k < c → InRange (figuresWith (at (now on)) (strokeOfPosition stroked (now tasks)) n c (now tasks) (now cores)) k) × (sorted ≡ true → Sorted (figuresWith (at (now on)) (strokeOfPosition stroked (now tasks)) n c (now tasks) (now cores))) ⌝ }
+    ensures { λ r. ⌜ findingOf r ≡ scan (fitRows (figuresWith (at (now (on .entry))) (strokeOfPosition stroked (now (tasks .entry))) n c (now (tasks .entry)) (now (cores .entry)))) ⌝ }
 {
     let periods = fit::periods_of(tasks, 10, n);
     let mut found = 255;
     let mut k = 0;
     while k < c {
-        let judged = judge(sorted, &periods, tasks, cores, on, n, c, k);
+        let judged = judge(sorted, stroked, &periods, tasks, cores, on, n, c, k);
         match judged {
             Judged::Unchained(i) => {
                 return Finding::Broken(Refusal::Chain, i as u16);

@@ -34,7 +34,7 @@ fn is_other_version(sheet: &[u8]) -> bool
     ensures { λ r. ⌜ r ≡ badVersion (now (sheet .entry)) ⌝ }
 {
     let version = sheet::read_word(sheet, 3);
-    !((version == 1) | (version == 2))
+    !((version == 1) | ((version == 2) | (version == 3)))
 }
 
 fn is_over_count(sheet: &[u8]) -> bool
@@ -76,9 +76,13 @@ pub(crate) fn framing(sheet: &[u8]) -> Finding
 
 // Rule 6 in the task records and in the core records. `records` is the sheet's part from byte 8.
 
-fn task_spares(records: &[u8], n: u8) -> Finding
-    ensures { λ r. ⌜ findingOf r ≡ scan (6 at offset (find (isSet (now (records .entry))) (taskSpares 0 n)) ∷ []) ⌝ }
+// Byte 5 of each task record, in version 3 none.
+fn task_spares(records: &[u8], n: u8, stroked: bool) -> Finding
+    ensures { λ r. ⌜ findingOf r ≡ scan (6 at offset (find (isSet (now (records .entry))) (taskSpares stroked 0 n)) ∷ []) ⌝ }
 {
+    if stroked {
+        return Finding::Clear;
+    }
     let mut at = 0;
     let mut i = 0;
     while i < n {
@@ -110,13 +114,20 @@ fn core_spares(records: &[u8], n: u8, c: u8, grouped: bool) -> Finding
     Finding::Clear
 }
 
-pub(crate) fn spare_rules(sheet: &[u8], records: &[u8], n: u8, c: u8, grouped: bool) -> Finding
-    ensures { λ r. ⌜ findingOf r ≡ scan (spareRows grouped n c (now (sheet .entry)) (now (records .entry))) ⌝ }
+pub(crate) fn spare_rules(
+    sheet: &[u8],
+    records: &[u8],
+    n: u8,
+    c: u8,
+    grouped: bool,
+    stroked: bool,
+) -> Finding
+    ensures { λ r. ⌜ findingOf r ≡ scan (spareRows grouped stroked n c (now (sheet .entry)) (now (records .entry))) ⌝ }
 {
     if sheet::byte(sheet, 7) != 0 {
         return Finding::Broken(Refusal::Spare, 7);
     }
-    let found = task_spares(records, n);
+    let found = task_spares(records, n, stroked);
     if let Finding::Broken(_, _) = found {
         return found;
     }

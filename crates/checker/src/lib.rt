@@ -1,4 +1,4 @@
-// The checker: rules 1 to 14 and 23 (docs/SHEET.md, sections 4 and 12) over any bytes.
+// The checker: rules 1 to 14, 23 and 25 (docs/SHEET.md, sections 4, 12 and 14) over any bytes.
 mod early;
 mod fits;
 mod frame;
@@ -32,23 +32,23 @@ fn is_misordered(grouped: bool, tasks: &[u8], cores: &[u8], on: &[u8], n: u8, c:
     false
 }
 
-// Rules 7 to 14 and 23. `records` is the sheet's part from byte 8.
-fn record_rules(grouped: bool, records: &[u8], n: u8, c: u8) -> Finding
+// Rules 7 to 14, 23 and 25. `records` is the sheet's part from byte 8.
+fn record_rules(grouped: bool, stroked: bool, records: &[u8], n: u8, c: u8) -> Finding
     requires { ⌜ (n ≤ 64) × (10 * n ≤ length (now records)) ⌝ }
-    ensures { λ r. ⌜ findingOf r ≡ scan (partRows grouped n c (now (records .entry))) ⌝ }
+    ensures { λ r. ⌜ findingOf r ≡ scan (partRows grouped stroked n c (now (records .entry))) ⌝ }
 {
     let at = 10 * (n as usize);
     let cores = &records[at..];
     let on = views::cores_of(grouped, records, cores, n, c);
     let misordered = is_misordered(grouped, records, cores, &on, n, c);
-    let found = early::early_rules(records, cores, &on, n, c, misordered);
+    let found = early::early_rules(stroked, records, cores, &on, n, c, misordered);
     if let Finding::Broken(_, _) = found {
         return found;
     }
-    fits::fit_rules(grouped, records, cores, &on, n, c)
+    fits::fit_rules(grouped, stroked, records, cores, &on, n, c)
 }
 
-// Rules 1 to 14 and 23.
+// Rules 1 to 14, 23 and 25.
 fn all_rules(sheet: &[u8]) -> Finding
     ensures { λ r. ⌜ findingOf r ≡ scan (rules (now (sheet .entry))) ⌝ }
 {
@@ -59,12 +59,13 @@ fn all_rules(sheet: &[u8]) -> Finding
     let n = sheet::byte(sheet, 5);
     let c = sheet::byte(sheet, 6);
     let grouped = sheet::is_grouped(sheet);
+    let stroked = sheet::is_stroked(sheet);
     let records = &sheet[8..];
-    let found = frame::spare_rules(sheet, records, n, c, grouped);
+    let found = frame::spare_rules(sheet, records, n, c, grouped, stroked);
     if let Finding::Broken(_, _) = found {
         return found;
     }
-    record_rules(grouped, records, n, c)
+    record_rules(grouped, stroked, records, n, c)
 }
 
 // What the rules found, as an answer.
@@ -77,7 +78,7 @@ fn answer(found: Finding, n: u8, c: u8) -> Verdict
     }
 }
 
-// Checks a sheet: any bytes get the answer of docs/SHEET.md, sections 4 and 12.
+// Checks a sheet: any bytes get the answer of docs/SHEET.md, sections 4, 12 and 14.
 pub fn check(sheet: &[u8]) -> Verdict
     ensures { λ r. ⌜ outcomeOf r ≡ verdict (now (sheet .entry)) ⌝ }
 {

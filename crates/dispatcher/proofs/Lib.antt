@@ -9,6 +9,7 @@ pub mod PendingWords
 pub mod Outcomes
 pub mod Ticking
 pub mod Tested
+pub mod Stray
 pub mod Logs
 pub mod Schedule
 pub mod Starts

@@ -1,9 +1,9 @@
 -- The one pass that tests a state's own form: what it knows after some tasks, and what each of its answers means.
 -- Assumes nothing.
-use Prim.Native.Nat.{ℕ, _+_, _/_, _%_, _^_, _≤_, _<_}
+use Prim.Native.Nat.{ℕ, zero, suc, _+_, _/_, _%_, _^_, _≤_, _<_}
 use mathlib.Core.Path.{_≡_, refl, sym, ap, subst, _∙_}
 use mathlib.Core.Logic.{_⊎_, inl, inr, ⊎-elim}
-use mathlib.Core.Bool.{Bool, true, false, _||_, true≢false}
+use mathlib.Core.Bool.{Bool, true, false, not, _||_, true≢false}
 use mathlib.Core.List.{List, [], _∷_, _++_}
 use native.Mathlib.Decide.{decLt, ℕ-discrete}
 use native.Mathlib.Nat.{mod-eq-of-lt}
@@ -11,10 +11,11 @@ use native.Mathlib.Numerals.{add-one}
 use native.Mathlib.Omega.{arith}
 use lib.ListN.{length, take, length-append, List·getD-append}
 use lib.Seq.{getD-append-seam, take-at, take-suc, take-take, length-take-le}
-use lib.Dec.{ltb, leb}
+use lib.Dec.{ltb, leb, eqb}
 use lib.Bits.{bitOr, or-lt}
 use lib.Count.{ones, ones-ones}
-use borrow.Author.Tests.{ltb-false, le-ltb, leb-false, lt-leb}
+use borrow.Author.Tests.{ltb-false, lt-ltb, le-ltb, leb-false, lt-leb, ne-eqb}
+use Rattle.sheet.proofs.Ranges.{neither}
 use Rattle.fit.specs.Lists.{Each, EachPair}
 use Rattle.fit.proofs.Lists.{each-of, each-both, each-append, each-halves, each-at, pairs-of, pairs-take, pairs-append, pairs-before}
 use Rattle.timing.specs.declared.Task.{Task}
@@ -24,8 +25,8 @@ use Rattle.timing.proofs.Form.{form-take}
 use Rattle.dispatcher.specs.declared.Core.{Core}
 use Rattle.dispatcher.specs.declared.form.Pass.{Pass}
 use Rattle.dispatcher.specs.Steps.{rank, breaks, begun, after, endsForeign}
-use Rattle.dispatcher.specs.State.{tasksOf, foreign}
-use Rattle.dispatcher.proofs.Foreign.{is-foreign, form-foreign}
+use Rattle.dispatcher.specs.State.{tasksOf, strokeIn, strokeSound, foreign}
+use Rattle.dispatcher.proofs.Foreign.{is-foreign, form-foreign, stroke-sound, sound-stroke}
 use Rattle.dispatcher.proofs.Bits.{bit, bit-most, bit-zero, bit-or, bit-same, bit-other, ones-bit, or-left, or-right}
 
 -- a test says exactly that something does not hold
@@ -33,8 +34,8 @@ record Fails (b : Bool) (P : Type 0) : Type 0 where
   pub holds : b ≡ false → P
   pub fails : P → b ≡ false
 
-neither : {a b : Bool} {P Q : Type 0} → Fails a P → Fails b Q → Fails (a || b) (P × Q)
-neither {a} {b} x y = go a b x y
+fails-both : {a b : Bool} {P Q : Type 0} → Fails a P → Fails b Q → Fails (a || b) (P × Q)
+fails-both {a} {b} x y = go a b x y
   where
     go : {P Q : Type 0} (a b : Bool) → Fails a P → Fails b Q → Fails (a || b) (P × Q)
     go true b x y = record { holds = λ e. absurd (true≢false e); fails = λ h. absurd (true≢false (x .fails (h .0))) }
@@ -48,19 +49,20 @@ fails-le m n = record { holds = leb-false m n; fails = lt-leb m n }
 
 -- a task whose own fields but for its number and the longest period are in range
 pub record Bounded (t : Task) : Type 0 where
-  pub budget-min : 1 ≤ t .budget
+  pub stroke-min : 1 ≤ t .stroke
+  pub stroke-max : t .stroke ≤ t .budget
   pub budget-max : t .budget ≤ t .period
   pub age-max : t .age ≤ t .period
   pub left-max : t .left ≤ t .budget
 
-fails-breaks : (last : ℕ) (t : Task) → Fails (breaks last t) ((last < rank t) × ((1 ≤ t .budget) × ((t .budget ≤ t .period) × ((t .age ≤ t .period) × (t .left ≤ t .budget)))))
-fails-breaks last t = neither (fails-le _ _) (neither (fails-lt _ _) (neither (fails-lt _ _) (neither (fails-lt _ _) (fails-lt _ _))))
+fails-breaks : (last : ℕ) (t : Task) → Fails (breaks last t) ((last < rank t) × ((1 ≤ t .stroke) × ((t .stroke ≤ t .budget) × ((t .budget ≤ t .period) × ((t .age ≤ t .period) × (t .left ≤ t .budget))))))
+fails-breaks last t = fails-both (fails-le _ _) (fails-both (fails-lt _ _) (fails-both (fails-lt _ _) (fails-both (fails-lt _ _) (fails-both (fails-lt _ _) (fails-lt _ _)))))
 
 fails-ends : (p : Pass) (n : ℕ) → Fails (endsForeign p n) ((p .numbers ≤ 63) × ((p .last / 64 ≤ 60000) × (n ≤ ones (p .seen))))
-fails-ends p n = neither (fails-lt _ _) (neither (fails-lt _ _) (fails-lt _ _))
+fails-ends p n = fails-both (fails-lt _ _) (fails-both (fails-lt _ _) (fails-lt _ _))
 
 -- the test and the step of the pass as the code makes them
-pub breaks-is : (here last : ℕ) (t : Task) → here ≡ rank t → (leb here last || (ltb (t .budget) 1 || (ltb (t .period) (t .budget) || (ltb (t .period) (t .age) || ltb (t .budget) (t .left))))) ≡ breaks last t
+pub breaks-is : (here last : ℕ) (t : Task) → here ≡ rank t → (leb here last || (ltb (t .stroke) 1 || (ltb (t .budget) (t .stroke) || (ltb (t .period) (t .budget) || (ltb (t .period) (t .age) || ltb (t .budget) (t .left)))))) ≡ breaks last t
 breaks-is here last t e = rw e
 
 pub after-is : (p : Pass) (t : Task) (here b : ℕ) → here ≡ rank t → b ≡ 2 ^ (t .number % 64) → _≡_ {A = Pass} (record { last = here; numbers = bitOr (p .numbers) (t .number); seen = bitOr (p .seen) b }) (after p t)
@@ -184,7 +186,7 @@ module _ (old : List Task) (t : Task) where
     passed-turn e =
         let h = fails-breaks (p .last) t .holds e in
         record {
-          bounded = each-append Bounded old (t ∷ []) (s .bounded) (record { budget-min = h .1 .0; budget-max = h .1 .1 .0; age-max = h .1 .1 .1 .0; left-max = h .1 .1 .1 .1 }, tt);
+          bounded = each-append Bounded old (t ∷ []) (s .bounded) (record { stroke-min = h .1 .0; stroke-max = h .1 .1 .0; budget-max = h .1 .1 .1 .0; age-max = h .1 .1 .1 .1 .0; left-max = h .1 .1 .1 .1 .1 }, tt);
           rising = pairs-append (λ u v. rank u < rank v) old (t ∷ []) (s .rising) (tt, tt) (each-of old (λ u k. (omega (arith, h .0, k), tt)) (s .ranked));
           ranked = each-append (λ u. rank u ≤ rank t) old (t ∷ []) (each-of old (λ u k. omega (arith, h .0, k)) (s .ranked)) (omega arith, tt);
           latest = inr (length old, omega (arith, more), ap rank behind);
@@ -204,7 +206,7 @@ module _ (old : List Task) (t : Task) where
         let before : Each (λ u. Above u t) old = pairs-before Above old t [] (f .ordered) in
         let later : Each (λ u. rank u < rank t) old = each-both old (λ u a b. above-rank u t (a .number-max) b) (sounds .0) before in
         let after : p .last < rank t = ⊎-elim (λ z. omega (arith, own .period-min)) (λ k. omega (arith, k .2, each-at (λ u. rank u < rank t) noTask old (k .0) (k .1) later)) (s .latest) in
-        true≢false (sym e ∙ fails-breaks (p .last) t .fails (after, (own .budget-min, (own .budget-max, (own .age-max, own .left-max)))))
+        true≢false (sym e ∙ fails-breaks (p .last) t .fails (after, (own .stroke-min, (own .stroke-max, (own .budget-max, (own .age-max, own .left-max))))))
 
 -- the end of the pass
 module _ (old : List Task) (p : Pass) (s : Passed old p) where
@@ -220,7 +222,7 @@ module _ (old : List Task) (p : Pass) (s : Passed old p) where
       let ranges : Each (λ u. (u .number ≤ 63) × (u .period ≤ 60000)) old = each-both old (λ u a b. (a, b)) low short in
       record {
         count = room;
-        sound = each-both old (λ u a c. record { number-max = a .0; period-min = omega (arith, c .budget-min, c .budget-max); period-max = a .1; budget-min = c .budget-min; budget-max = c .budget-max; age-max = c .age-max; left-max = c .left-max }) ranges (s .bounded);
+        sound = each-both old (λ u a c. record { number-max = a .0; period-min = omega (arith, c .stroke-min, c .stroke-max, c .budget-max); period-max = a .1; budget-min = omega (arith, c .stroke-min, c .stroke-max); budget-max = c .budget-max; age-max = c .age-max; left-max = c .left-max; stroke-min = c .stroke-min; stroke-max = c .stroke-max }) ranges (s .bounded);
         distinct = pairs-of old (λ u v a b d x. d (ap (λ n. n % 64) x)) low (s .seen .apart (h .1 .1));
         ordered = pairs-of old (λ u v a b r. rank-above u v a b r) low (s .rising);
       }
@@ -248,22 +250,54 @@ module _ (s : Core) (i : ℕ) (p : Pass) (room : length (s .tasks) ≡ 64) (most
   pass-turn q x y = rw (next-task, y) (passed-turn (take i (s .tasks)) (nth (s .tasks) i) p b (sym e ∙ x))
 
   pub pass-breaks : r ≡ true → true ≡ foreign s
-  pass-breaks x = is-foreign s (λ f. breaks-form (take i (s .tasks)) (nth (s .tasks) i) p b (sym e ∙ x) (subst Form (take-take (i + 1) (s .count) (s .tasks) (omega arith) ∙ next-task) (form-take (i + 1) (tasksOf s) (f .form))))
+  pass-breaks x = is-foreign s (λ f. breaks-form (take i (s .tasks)) (nth (s .tasks) i) p b (sym e ∙ x) (subst Form (take-take (i + 1) (s .count) (s .tasks) (omega arith) ∙ next-task) (form-take (i + 1) (tasksOf s) (f .form .tasks))))
 
-pub pass-end : (s : Core) (i : ℕ) (p : Pass) (r : Bool) → length (s .tasks) ≡ 64 → s .count ≤ 64 → i ≤ s .count → s .count ≤ i → Passed (take i (s .tasks)) p → r ≡ endsForeign p (s .count) → r ≡ foreign s
-pass-end s i p r room most h k b e = go r refl
-  where
-    all : Passed (tasksOf s) p
-    all =
-        let same : i ≡ s .count = omega arith in
-        subst (λ n. Passed (take n (s .tasks)) p) same b
+-- after all tasks: the pass tells whether their form is broken
+module _ (s : Core) (i : ℕ) (p : Pass) (r : Bool) (room : length (s .tasks) ≡ 64) (most : s .count ≤ 64) (h : i ≤ s .count) (k : s .count ≤ i) (b : Passed (take i (s .tasks)) p) (e : r ≡ endsForeign p (s .count)) where
+  all : Passed (tasksOf s) p
+  all =
+      let same : i ≡ s .count = omega arith in
+      subst (λ n. Passed (take n (s .tasks)) p) same b
 
-    many : length (tasksOf s) ≡ s .count
-    many = length-take-le (s .count) (s .tasks) (omega arith)
+  many : length (tasksOf s) ≡ s .count
+  many = length-take-le (s .count) (s .tasks) (omega arith)
 
-    told : r ≡ endsForeign p (length (tasksOf s))
-    told = e ∙ ap (endsForeign p) (sym many)
+  told : r ≡ endsForeign p (length (tasksOf s))
+  told = e ∙ ap (endsForeign p) (sym many)
 
-    go : (x : Bool) → r ≡ x → r ≡ foreign s
-    go true x = x ∙ is-foreign s (λ f. ends-broken (tasksOf s) p all (sym told ∙ x) (f .form))
-    go false x = x ∙ sym (form-foreign s (record { count = most; form = ends-form (tasksOf s) p all (omega (arith, many)) (sym told ∙ x) }))
+  pub pass-ends : r ≡ true → true ≡ foreign s
+  pass-ends x = is-foreign s (λ f. ends-broken (tasksOf s) p all (sym told ∙ x) (f .form .tasks))
+
+  pub pass-form : r ≡ false → Form (tasksOf s)
+  pass-form x = ends-form (tasksOf s) p all (omega (arith, many)) (sym told ∙ x)
+
+  pub pass-distinct : r ≡ false → EachPair Distinct (tasksOf s)
+  pass-distinct x = pass-form x .distinct
+
+  -- the tasks are in form, and then the stroke tells
+  pub pass-stroke : r ≡ false → (t : Bool) → t ≡ not (strokeSound (strokeIn s) (tasksOf s)) → t ≡ foreign s
+  pass-stroke x t y = go (strokeSound (strokeIn s) (tasksOf s)) refl
+    where
+      go : (v : Bool) → strokeSound (strokeIn s) (tasksOf s) ≡ v → t ≡ foreign s
+      go true z =
+          let f = sound-stroke (strokeIn s) (tasksOf s) z in
+          y ∙ ap not z ∙ sym (form-foreign s (record { count = most; form = record { tasks = pass-form x; lasts = f .0; none = f .1 } }))
+      go false z = y ∙ ap not z ∙ is-foreign s (λ f. true≢false (sym (stroke-sound (strokeIn s) (tasksOf s) (f .form .lasts, f .form .none)) ∙ z))
+
+  -- a state without ticks left of a stroke has number 0 for it
+  pub pass-free : r ≡ false → s .«stroke_left» ≡ 0 → ltb 0 (s .«stroke_task») ≡ foreign s
+  unfolding strokeSound
+  pass-free x z = pass-stroke x (ltb 0 (s .«stroke_task»)) (rw z (go (s .«stroke_task»)))
+    where
+      go : (n : ℕ) → ltb 0 n ≡ not (eqb n 0)
+      go zero = refl
+      go (suc n) =
+          let some : eqb (suc n) 0 ≡ false = ne-eqb (suc n) 0 (λ y. omega arith) in
+          rw (lt-ltb 0 (suc n) (omega arith), some)
+
+  -- without a stroke's ticks and number the tasks tell alone
+  pub pass-outside : r ≡ false → (ltb 0 (s .«stroke_left») || ltb 0 (s .«stroke_task»)) ≡ false → false ≡ foreign s
+  pass-outside x y =
+      let n = neither (ltb 0 (s .«stroke_left»)) (ltb 0 (s .«stroke_task»)) y in
+      let z : s .«stroke_left» ≡ 0 = omega (arith, ltb-false 0 (s .«stroke_left») (n .0)) in
+      sym (n .1) ∙ pass-free x z

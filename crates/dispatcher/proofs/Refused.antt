@@ -1,7 +1,7 @@
 -- A refused start of either kind hands back a state in form without tasks, on which every tick is idle.
 -- Assumes nothing.
 use Prim.Native.Nat.{ℕ}
-use mathlib.Core.Path.{_≡_, refl, ap, _∙_}
+use mathlib.Core.Path.{_≡_, refl, sym, ap, _∙_}
 use mathlib.Core.Bool.{Bool, true, false, cond}
 use mathlib.Core.Option.{Option, none, some}
 use mathlib.Core.List.{List, [], _∷_, map}
@@ -11,16 +11,17 @@ use Rattle.sheet.specs.Table.{scan, Refused}
 use Rattle.fit.specs.Lists.{Each, EachPair}
 use Rattle.checker.specs.Verdict.{verdict}
 use Rattle.jobs.specs.Jobs.{listRows}
-use Rattle.timing.specs.Calls.{Call, release, finish, tick, accepted, refused, modify, ofFirst, answer, next, entry, log, run}
+use Rattle.timing.specs.Calls.{Call, release, finish, tick, accepted, refused, modify, ofFirst, answerBy, nextBy, nextStroke, answer, next, entry, log, run}
 use Rattle.timing.specs.Form.{Form}
 use Rattle.dispatcher.specs.declared.Core.{Core}
-use Rattle.dispatcher.specs.State.{withTasks, InForm}
+use Rattle.timing.proofs.Plain.{plain}
+use Rattle.dispatcher.specs.State.{withState, InForm}
 use Rattle.dispatcher.specs.Operations.{step}
 use Rattle.dispatcher.specs.Starts.{stateOf, sheetAnswer, sheetTasks, sheetState, listAnswer, listState, withoutTasks, Taskless}
 use Rattle.dispatcher.proofs.Foreign.{form-foreign}
-use Rattle.dispatcher.proofs.Outcomes.{same-tasks}
+use Rattle.dispatcher.proofs.Outcomes.{same-state}
 use Rattle.dispatcher.proofs.Logs.{log-form}
-use Rattle.dispatcher.proofs.Starts.{state-tasks, state-places, state-form}
+use Rattle.dispatcher.proofs.Starts.{state-plain, state-places, state-form}
 use Rattle.checker.specs.Verdict as verdict
 
 -- no tasks are in form, and what they answer and hand on
@@ -28,19 +29,19 @@ form-none : Form []
 unfolding Each EachPair
 form-none = record { count = omega arith; sound = tt; distinct = tt; ordered = tt }
 
-next-none : (c : Call) → next c [] ≡ []
-unfolding next modify
+next-none : (c : Call) → next c (plain []) ≡ plain []
+unfolding next nextBy nextStroke modify ofFirst
 next-none (release j) = refl
 next-none (finish j) = refl
 next-none tick = refl
 
-answer-none : (c : Call) → answer c [] ≡ withoutTasks c
-unfolding answer ofFirst withoutTasks
+answer-none : (c : Call) → answer c (plain []) ≡ withoutTasks c
+unfolding answer answerBy ofFirst withoutTasks
 answer-none (release j) = refl
 answer-none (finish j) = refl
 answer-none tick = refl
 
-log-none : (cs : List Call) → log answer next [] cs ≡ map (λ c. entry c (withoutTasks c)) cs
+log-none : (cs : List Call) → log answer next (plain []) cs ≡ map (λ c. entry c (withoutTasks c)) cs
 unfolding log
 log-none [] = refl
 log-none (c ∷ cs) = rw (answer-none c, next-none c) (ap (λ l. entry c (withoutTasks c) ∷ l) (log-none cs))
@@ -54,7 +55,7 @@ none-form = state-form [] form-none
 
 none-step : (c : Call) → step c none-of ≡ none-of
 unfolding step
-none-step c = rw (form-foreign none-of none-form) (ap (withTasks none-of) (rw (state-tasks []) (next-none c)) ∙ same-tasks none-of)
+none-step c = rw (form-foreign none-of none-form) (ap (λ u. withState none-of (next c u)) (state-plain []) ∙ ap (withState none-of) (next-none c ∙ sym (state-plain [])) ∙ same-state none-of)
 
 none-run : (cs : List Call) → run step none-of cs ≡ none-of
 unfolding run
@@ -64,7 +65,7 @@ none-run (c ∷ cs) = rw (none-step c) (none-run cs)
 taskless : Taskless none-of
 taskless = record {
   form = none-form;
-  answers = λ cs. log-form cs none-of (state-places [] (omega arith)) none-form ∙ ap (λ l. log answer next l cs) (state-tasks []) ∙ log-none cs;
+  answers = λ cs. log-form cs none-of (state-places [] (omega arith)) none-form ∙ ap (λ l. log answer next l cs) (state-plain []) ∙ log-none cs;
   kept = none-run;
 }
 

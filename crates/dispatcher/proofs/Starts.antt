@@ -19,7 +19,7 @@ use Rattle.sheet.specs.declared.Finding.{Finding}
 use Rattle.sheet.specs.declared.Finding.the-variants.{Clear, Broken}
 use Rattle.sheet.specs.Table.{scan, findingOf, Refused}
 use Rattle.sheet.specs.Records.{periodAt, budgetAt}
-use Rattle.sheet.specs.Views.{isGrouped, numberOfPosition, positionedIn, byPosition, figures}
+use Rattle.sheet.specs.Views.{isGrouped, isStroked, strokeOfPosition, numberOfPosition, positionedIn, byPosition, figures}
 use Rattle.fit.specs.declared.By.the-variants.{Period}
 use Rattle.fit.specs.Ring.{orderBy}
 use Rattle.fit.proofs.Priority.{order-members, order-count, order-rising}
@@ -41,14 +41,16 @@ use Rattle.timing.specs.Serving.{ByHistory}
 use Rattle.dispatcher.specs.declared.Core.{Core}
 use Rattle.dispatcher.specs.declared.Step.{Step}
 use Rattle.dispatcher.specs.declared.Answer.the-variants.{Accepted}
-use Rattle.dispatcher.specs.State.{tasksOf, InForm}
+use Rattle.timing.specs.Strokes.{StateForm, Unbroken}
+use Rattle.timing.proofs.Plain.{plain, plain-form}
+use Rattle.dispatcher.specs.State.{tasksOf, stateIn, InForm}
 use Rattle.dispatcher.specs.Operations.{ask, step}
 use Rattle.dispatcher.specs.Starts.{freshTasks, stateOf, sheetAnswer, sheetTasks, sheetState, SheetStart, listAnswer, listState, ListStart, FreshCore}
 use Rattle.dispatcher.specs.OnTime.{Kept, Timely}
 use Rattle.dispatcher.specs.Steps.{freshBy, refusal}
 use Rattle.dispatcher.proofs.Starting.{fresh-renamed}
 use Rattle.dispatcher.proofs.Logs.{log-form, ask-run, never-foreign}
-use Rattle.dispatcher.proofs.Schedule.{schedule-form, schedule-on-time, schedule-by-period, schedule-by-history, all-fresh, fresh-form}
+use Rattle.dispatcher.proofs.Schedule.{schedule-form, schedule-on-time, schedule-by-period, schedule-unbroken, schedule-by-history, all-fresh, fresh-form}
 use Rattle.checker.specs.Verdict as verdict
 
 -- the state that has these tasks: its tasks, its places and its form
@@ -62,26 +64,33 @@ state-places l h = simp (length-append, length-replicate) (omega arith)
 
 pub state-form : (l : List Task) → Form l → InForm (stateOf l)
 unfolding stateOf
-state-form l f = record { count = f .count; form = subst Form (sym (state-tasks l)) f }
+state-form l f = record { count = f .count; form = subst (λ t. StateForm (plain t)) (sym (state-tasks l)) (plain-form l f) }
+
+-- as timing has it: these tasks, and no stroke
+pub state-plain : (l : List Task) → stateIn (stateOf l) ≡ plain l
+unfolding stateOf
+state-plain l = ap plain (state-tasks l)
 
 -- fresh tasks in form make a fresh state
-fresh-core : (p e : ℕ → ℕ) (l : List ℕ) → Form (freshTasks p e l) → FreshCore (stateOf (freshTasks p e l))
-fresh-core p e l f = record {
-  places = state-places (freshTasks p e l) (f .count);
-  form = state-form (freshTasks p e l) f;
-  fresh = rw (state-tasks (freshTasks p e l)) (all-fresh p e l);
+fresh-core : (p e q : ℕ → ℕ) (l : List ℕ) → Form (freshTasks p e q l) → FreshCore (stateOf (freshTasks p e q l))
+unfolding stateOf
+fresh-core p e q l f = record {
+  places = state-places (freshTasks p e q l) (f .count);
+  form = state-form (freshTasks p e q l) f;
+  fresh = rw (state-tasks (freshTasks p e q l)) (all-fresh p e q l);
+  free = refl;
 }
 
 -- a core that the checker accepts starts fresh
 core-fresh : (s : List ℕ) (n c k : ℕ) → CoreOf s n c k → FreshCore (stateOf (sheetTasks s k))
 unfolding sheetTasks
-core-fresh s n c k h = fresh-core _ _ _ (schedule-form _ _ _ _ _ _ (h .schedulable))
+core-fresh s n c k h = fresh-core _ _ _ _ (schedule-form _ _ _ _ _ _ _ (h .schedulable))
 
 -- the log of a core that the checker accepts is that of its fresh tasks
-core-log : (s : List ℕ) (n c k : ℕ) → CoreOf s n c k → (cs : List Call) → log ask step (stateOf (sheetTasks s k)) cs ≡ log answer next (sheetTasks s k) cs
+core-log : (s : List ℕ) (n c k : ℕ) → CoreOf s n c k → (cs : List Call) → log ask step (stateOf (sheetTasks s k)) cs ≡ log answer next (plain (sheetTasks s k)) cs
 core-log s n c k h cs =
     let f = core-fresh s n c k h in
-    log-form cs (stateOf (sheetTasks s k)) (f .places) (f .form) ∙ ap (λ t. log answer next t cs) (state-tasks (sheetTasks s k))
+    log-form cs (stateOf (sheetTasks s k)) (f .places) (f .form) ∙ ap (λ t. log answer next t cs) (state-plain (sheetTasks s k))
 
 -- the on-time promise of a core that the checker accepts, from its fresh state
 pub core-kept : (s : List ℕ) (n c k : ℕ) → CoreOf s n c k → (cs : List Call) → Kept s k (stateOf (sheetTasks s k)) cs
@@ -89,8 +98,9 @@ unfolding sheetTasks withinOn
 core-kept s n c k h cs =
     let f = core-fresh s n c k h in
     record {
-      rule = subst (OnTime _ _) (sym (core-log s n c k h cs)) (schedule-on-time _ _ _ _ _ _ (h .schedulable) cs);
-      by-period = subst (OnTime _ _) (sym (core-log s n c k h cs)) (schedule-by-period _ _ _ _ _ _ (h .schedulable) cs);
+      rule = subst (OnTime _ _) (sym (core-log s n c k h cs)) (schedule-on-time _ _ _ _ _ _ _ (h .schedulable) cs);
+      by-period = subst (OnTime _ _) (sym (core-log s n c k h cs)) (schedule-by-period _ _ _ _ _ _ _ (h .schedulable) cs);
+      unbroken = subst (Unbroken _) (sym (core-log s n c k h cs)) (schedule-unbroken _ _ _ _ _ _ _ (h .schedulable) cs);
       never-foreign = never-foreign cs (stateOf (sheetTasks s k)) (f .places) (f .form);
       bounds = h .schedulable .bounds;
     }
@@ -101,14 +111,14 @@ unfolding sheetTasks
 core-by-history s n c k h cs =
     let z = stateOf (sheetTasks s k) in
     let f = core-fresh s n c k h in
-    each-of _ (λ j x. subst₂ (ByHistory (figures s .period j) j) (sym (core-log s n c k h cs)) (sym (ask-run (release j) cs z (f .places) (f .form) ∙ ap (λ t. answer (release j) (run next t cs)) (state-tasks (sheetTasks s k)))) x) (schedule-by-history _ _ _ _ _ _ (h .schedulable) cs)
+    each-of _ (λ j x. subst₂ (ByHistory (figures s .period j) j) (sym (core-log s n c k h cs)) (sym (ask-run (release j) cs z (f .places) (f .form) ∙ ap (λ t. answer (release j) (run next t cs)) (state-plain (sheetTasks s k)))) x) (schedule-by-history _ _ _ _ _ _ _ (h .schedulable) cs)
 
 -- a refused start promises nothing on time
 pub refused-timely : (s : List ℕ) (k : ℕ) (z : Core) (w : Refusal) (p : ℕ) (r : Step) → r ≡ refusal z w p → Timely s k r
 refused-timely s k z w p r q = record { on-time = λ a. absurd (let n : _≡_ {A = ℕ} 0 1 = cc in omega arith) }
 
 module _ (s : List ℕ) (k : ℕ) (v : Verdict) (e : outcomeOf v ≡ verdict s) where
-  -- 1 to 14 and 23
+  -- 1 to 14, 23 and 25
   pub sheet-refused : (w : Refusal) (p : ℕ) (z : Core) (r : Step) → v ≡ Rejected w p → z ≡ stateOf [] → r ≡ refusal z w p → SheetStart s k r
   unfolding sheetAnswer sheetState
   sheet-refused w p z r x y q =
@@ -142,12 +152,12 @@ module _ (s : List ℕ) (k : ℕ) (v : Verdict) (e : outcomeOf v ≡ verdict s) 
       sheet-records = rw (part s 8) (simp length-drop (omega (arith, accepted-core .size)))
 
       -- the fresh state of the core, as it is read from there by position
-      module _ (grouped : Bool) (y : Core) (g : grouped ≡ isGrouped s) (q : y ≡ stateOf (freshBy (periodAt records) (budgetAt records) (numberOfPosition grouped records) (orderOn (positionedIn grouped n c records) k))) where
+      module _ (grouped stroked : Bool) (y : Core) (g : grouped ≡ isGrouped s) (d : stroked ≡ isStroked s) (q : y ≡ stateOf (freshBy (periodAt records) (budgetAt records) (strokeOfPosition stroked records) (numberOfPosition grouped records) (orderOn (positionedIn grouped stroked n c records) k))) where
         fresh : y ≡ stateOf (sheetTasks s k)
         unfolding sheetTasks
         fresh =
             q
-            ∙ rw (part s 8, g, accepted-core .tasks, accepted-core .cores)
+            ∙ rw (part s 8, g, d, accepted-core .tasks, accepted-core .cores)
             (ap stateOf (sym (fresh-renamed (byPosition s) (figures s) (numberOfPosition (isGrouped s) (drop 8 s)) (accepted-core .views) k)))
 
         pub sheet-starts : SheetStart s k (record { answer = Accepted; core = y })
@@ -177,7 +187,7 @@ module _ (l : List ℕ) (f : Finding) (e : findingOf f ≡ scan (listRows 0 l)) 
     list-fits = omega (arith, list-few)
 
     -- the fresh state of the list
-    pub list-starts : (y : Core) → y ≡ stateOf (freshTasks (jobPeriod l) (jobBudget l) (orderBy Period (jobPeriod l) (length l / 4))) → ListStart l (record { answer = Accepted; core = y })
+    pub list-starts : (y : Core) → y ≡ stateOf (freshTasks (jobPeriod l) (jobBudget l) (λ i. 1) (orderBy Period (jobPeriod l) (length l / 4))) → ListStart l (record { answer = Accepted; core = y })
     unfolding listAnswer listState jobCount
     list-starts y q = record { answer = rw (← clear); core = rw (← clear) q }
 
@@ -226,11 +236,12 @@ list-fresh l a = go (scan (listRows 0 l)) refl a
     go none e x =
         let h = listed 0 l (sym e) in
         let m = order-members (jobPeriod l) (λ i. 0) 0 (jobCount l) in
-        fresh-core (jobPeriod l) (jobBudget l) _
-        (fresh-form (jobPeriod l) (jobBudget l) _
+        fresh-core (jobPeriod l) (jobBudget l) (λ i. 1) _
+        (fresh-form (jobPeriod l) (jobBudget l) (λ i. 1) _
         (omega (arith, order-count (jobPeriod l) (λ i. 0) 0 (jobCount l), h .count))
         (each-of _ (λ i q. omega (arith, q .0, h .count)) m)
         (each-of _ (λ i q. h .period i (q .0)) m)
         (each-of _ (λ i q. h .budget i (q .0)) m)
+        (each-of _ (λ i q. (omega arith, h .budget i (q .0) .0)) m)
         (order-rising (jobPeriod l) (λ i. 0) 0 (jobCount l)))
     go (some r) e x = absurd (let z : _≡_ {A = ℕ} 0 1 = cc in omega arith)

@@ -1,4 +1,4 @@
--- The on-time rule (docs/SHEET.md, section 7) for a core that is started from a sheet.
+-- The on-time rule (docs/SHEET.md, sections 7 and 14) for a core that is started from a sheet.
 use Prim.Native.Nat.{ℕ, _≤_}
 use mathlib.Core.Path.{_≡_}
 use mathlib.Core.List.{List}
@@ -7,15 +7,17 @@ use Rattle.fit.specs.Lists.{Each}
 use Rattle.fit.specs.Cores.{orderOn, withinOn}
 use Rattle.timing.specs.Calls.{Call, Entry, accepted, log}
 use Rattle.timing.specs.OnTime.{count, isRefused, OnTime}
+use Rattle.timing.specs.Strokes.{Unbroken}
 use Rattle.dispatcher.specs.declared.Core.{Core}
 use Rattle.dispatcher.specs.declared.Step.{Step}
 use Rattle.dispatcher.specs.Operations.{answerOf, ask, step}
 
--- What holds of a log l of core k of sheet s: the on-time rule with w and e of the sheet, so also with p and e, and no call is refused as
--- Foreign (21). Beside it, e ≤ w ≤ p for every task of the core.
+-- What holds of a log l of core k of sheet s: the on-time rule with w and e of the sheet, so also with p and e, no stroke is broken, and no
+-- call is refused as Foreign (21). Beside it, e ≤ w ≤ p for every task of the core.
 pub record KeptOn (s : List ℕ) (k : ℕ) (l : List Entry) : Type 0 where
   pub rule : OnTime (withinOn (figures s) k) (figures s .budget) l
   pub by-period : OnTime (figures s .period) (figures s .budget) l
+  pub unbroken : Unbroken (figures s .stroke) l
   pub never-foreign : count (isRefused 21) l ≡ 0
   pub bounds : Each (λ i. (figures s .budget i ≤ withinOn (figures s) k i) × (withinOn (figures s) k i ≤ figures s .period i)) (orderOn (figures s) k)
 

@@ -1,4 +1,4 @@
--- The two starts, from a sheet and from a job list (docs/SHEET.md, section 6). A refused start hands back the state without tasks.
+-- The two starts, from a sheet and from a job list (docs/SHEET.md, sections 6 and 14). A refused start hands back the state without tasks.
 use Prim.Native.Nat.{ℕ, _-_}
 use mathlib.Core.Path.{_≡_}
 use mathlib.Core.Bool.{cond}
@@ -14,35 +14,35 @@ use Rattle.fit.specs.Lists.{Each}
 use Rattle.fit.specs.Cores.{orderOn}
 use Rattle.jobs.specs.Jobs.{jobCount, jobPeriod, jobBudget, listRows}
 use Rattle.timing.specs.declared.Task.{Task}
-use Rattle.timing.specs.Calls.{Call, release, finish, tick, Answer, accepted, idle, refused, entry, log, run}
+use Rattle.timing.specs.Calls.{Call, release, finish, tick, Answer, accepted, idle, refused, noStroke, entry, log, run}
 use Rattle.timing.specs.Serving.{noTask}
 use Rattle.timing.specs.Form.{Fresh}
 use Rattle.dispatcher.specs.declared.Core.{Core}
 use Rattle.dispatcher.specs.declared.Step.{Step}
 use Rattle.dispatcher.specs.Operations.{answerOf, ask, step}
-use Rattle.dispatcher.specs.State.{tasksOf, InForm}
+use Rattle.dispatcher.specs.State.{tasksOf, strokeIn, InForm}
 use Rattle.checker.specs.Verdict as verdict
 
 -- a task with its age equal to its period and nothing left
-abbrev pub freshTask : (p e i : ℕ) → Task
-freshTask p e i = record { period = p; budget = e; age = p; left = 0; number = i }
+abbrev pub freshTask : (p e q i : ℕ) → Task
+freshTask p e q i = record { period = p; budget = e; age = p; left = 0; number = i; stroke = q }
 
--- the listed tasks, fresh, with p and e by task number
-unfoldable pub freshTasks : (p e : ℕ → ℕ) → List ℕ → List Task
-freshTasks p e l = map (λ i. freshTask (p i) (e i) i) l
+-- the listed tasks, fresh, with p, e and stroke length q by task number
+unfoldable pub freshTasks : (p e q : ℕ → ℕ) → List ℕ → List Task
+freshTasks p e q l = map (λ i. freshTask (p i) (e i) (q i) i) l
 
--- the state that has these tasks and zeros past them
+-- the state that has these tasks and zeros past them, and in which no stroke lasts
 unfoldable pub stateOf : List Task → Core
-stateOf l = record { count = length l; tasks = l ++ replicate (64 - length l) noTask }
+stateOf l = record { count = length l; tasks = l ++ replicate (64 - length l) noTask; «stroke_task» = 0; «stroke_left» = 0 }
 
--- what a start of core k of a sheet answers: the refusal of the sheet (1 to 14 and 23), then 9 with place 0 where there is no such core
+-- what a start of core k of a sheet answers: the refusal of the sheet (1 to 14, 23 and 25), then 9 with place 0 where there is no such core
 unfoldable pub sheetAnswer : verdict.Outcome → ℕ → Answer
 sheetAnswer (verdict.accepted n c) k = cond (ltb k c) accepted (refused 9 0)
 sheetAnswer (verdict.refused w p) k = refused w p
 
 -- the tasks of core k of a sheet in priority order, fresh
 unfoldable pub sheetTasks : List ℕ → ℕ → List Task
-sheetTasks s k = freshTasks (figures s .period) (figures s .budget) (orderOn (figures s) k)
+sheetTasks s k = freshTasks (figures s .period) (figures s .budget) (figures s .stroke) (orderOn (figures s) k)
 
 -- the state that is handed back: of the core's tasks where the start is accepted, else without tasks
 unfoldable pub sheetState : verdict.Outcome → List ℕ → ℕ → Core
@@ -59,10 +59,10 @@ unfoldable pub listAnswer : Option Refused → Answer
 listAnswer none = accepted
 listAnswer (some r) = refused (r .number) (r .place)
 
--- the state that is handed back: of the listed tasks in priority order, numbered by their places in the list, where the start is
--- accepted, else without tasks
+-- the state that is handed back: of the listed tasks in priority order, numbered by their places in the list, with strokes of one tick,
+-- where the start is accepted, else without tasks
 unfoldable pub listState : Option Refused → List ℕ → Core
-listState none l = stateOf (freshTasks (jobPeriod l) (jobBudget l) (orderBy Period (jobPeriod l) (jobCount l)))
+listState none l = stateOf (freshTasks (jobPeriod l) (jobBudget l) (λ i. 1) (orderBy Period (jobPeriod l) (jobCount l)))
 listState (some r) l = stateOf []
 
 -- what a start from a job list promises; there is no core limit, for which 0 stands
@@ -70,11 +70,12 @@ pub record ListStart (l : List ℕ) (r : Step) : Type 0 where
   pub answer : answerOf (r .answer) ≡ listAnswer (scan (listRows 0 l))
   pub core : r .core ≡ listState (scan (listRows 0 l)) l
 
--- what the state of an accepted start of either kind is: it has 64 places, is in form, and every task is fresh
+-- what the state of an accepted start of either kind is: it has 64 places, is in form, every task is fresh, and no stroke lasts
 pub record FreshCore (s : Core) : Type 0 where
   pub places : length (s .tasks) ≡ 64
   pub form : InForm s
   pub fresh : Each Fresh (tasksOf s)
+  pub free : strokeIn s ≡ noStroke
 
 -- what a call on a state without tasks answers: 17 to a release or a finish, and every tick is idle
 unfoldable pub withoutTasks : Call → Answer

@@ -11,28 +11,29 @@ use Rattle.sheet.specs.declared.Refusal.the-variants.{Foreign, Unlisted}
 use Rattle.fit.specs.Lists.{placeOf}
 use Rattle.timing.specs.declared.Task.{Task}
 use Rattle.timing.specs.Tasks.{named}
+use Rattle.timing.specs.Calls.{Stroke, turn}
 use Rattle.dispatcher.specs.declared.Core.{Core}
 use Rattle.dispatcher.specs.declared.form.Pass.{Pass}
 use Rattle.dispatcher.specs.declared.Spot.{Spot}
 use Rattle.dispatcher.specs.declared.Spot.the-variants.{At, Refused as Missing}
 use Rattle.dispatcher.specs.declared.Step.{Step}
 use Rattle.dispatcher.specs.declared.Answer.the-variants.{Accepted, Refused}
-use Rattle.dispatcher.specs.State.{tasksOf, foreign}
+use Rattle.dispatcher.specs.State.{tasksOf, strokeIn, strokeSound, foreign}
 use Rattle.dispatcher.specs.Starts.{freshTask}
 
--- the tasks at the listed positions, fresh, with p, e and number by position
-unfoldable pub freshBy : (p e number : ℕ → ℕ) → List ℕ → List Task
-freshBy p e number l = map (λ j. freshTask (p j) (e j) (number j)) l
+-- the tasks at the listed positions, fresh, with p, e, q and number by position
+unfoldable pub freshBy : (p e q number : ℕ → ℕ) → List ℕ → List Task
+freshBy p e q number l = map (λ j. freshTask (p j) (e j) (q j) (number j)) l
 
 -- a number that rises with the priority order of sound tasks
 abbrev pub rank : Task → ℕ
 rank t = t .period * 64 + t .number
 
--- A pass over a state's tasks shows whether it is foreign. Task by task: its rank is not above that of the task before, or its budget, age
--- or ticks left are out of range.
+-- A pass over a state's tasks shows whether their form is broken. Task by task: its rank is not above that of the task before, or its stroke
+-- length, budget, age or ticks left are out of range; a stroke length of 1 to the budget leaves no budget of 0.
 abbrev pub breaks : ℕ → Task → Bool
 breaks last t =
-    leb (rank t) last || (ltb (t .budget) 1 || (ltb (t .period) (t .budget) || (ltb (t .period) (t .age) || ltb (t .budget) (t .left))))
+    leb (rank t) last || (ltb (t .stroke) 1 || (ltb (t .budget) (t .stroke) || (ltb (t .period) (t .budget) || (ltb (t .period) (t .age) || ltb (t .budget) (t .left)))))
 
 -- the pass after no task, and after one more
 abbrev pub begun : Pass
@@ -51,9 +52,16 @@ spot s j =
     let i : ℕ = placeOf (named j) (tasksOf s) in
     cond (foreign s) (Missing Foreign) (cond (ltb i (s .count)) (At i) (Missing Unlisted))
 
--- the state with another task at a place
+-- the place of the task that the tick goes to inside a stroke, and 65 where the stroke is none of the tasks'
+abbrev pub strokePlace : Core → ℕ
+strokePlace s = cond (strokeSound (strokeIn s) (tasksOf s)) (placeOf (turn (strokeIn s)) (tasksOf s)) 65
+
+-- the state with another task at a place, and with another stroke
 abbrev pub changed : Core → ℕ → Task → Core
-changed s i t = record { count = s .count; tasks = set (s .tasks) i t }
+changed s i t = record { count = s .count; tasks = set (s .tasks) i t; «stroke_task» = s .«stroke_task»; «stroke_left» = s .«stroke_left» }
+
+abbrev pub withStroke : Core → Stroke → Core
+withStroke s k = record { count = s .count; tasks = s .tasks; «stroke_task» = k .task; «stroke_left» = k .left }
 
 -- a refused call hands the state back as given, an accepted one with a task changed
 abbrev pub refusal : Core → Refusal → ℕ → Step

@@ -5,21 +5,21 @@ use mathlib.Core.Path.{_≡_, refl, sym, ap, subst, _∙_}
 use mathlib.Core.Bool.{Bool, true, false, cond}
 use mathlib.Core.Option.{none, some, Option·some-ne-none}
 use mathlib.Core.List.{List, [], _∷_, _++_}
-use native.Mathlib.Nat.{mul-one, mul-zero, zero-mul, mul-assoc, mul-comm, mul-pos, mul-div-right, div-self, mul-mod-right, div-add-mod, add-mul, le-of-mul-le-mul-right, lt-of-mul-lt-mul-left, le-div-iff-mul-le, div-le-of-le-mul}
+use native.Mathlib.Nat.{mul-one, mul-zero, zero-mul, mul-assoc, mul-comm, mul-pos, mul-div-right, mul-mod-right, div-add-mod, add-mul, le-of-mul-le-mul-right, lt-of-mul-lt-mul-left, div-le-of-le-mul}
 use native.Mathlib.Omega.{arith}
 use borrow.Author.Tests.{eqb-true, eq-eqb}
 use lib.Dec.{eqb}
 use lib.Seq.{append-snoc}
 use Rattle.fit.specs.Lists.{sum, occurs, Each, EachPair}
 use Rattle.fit.specs.Fits.{chainBreak, Multiple, Multiples, lastFactor, load, within}
-use Rattle.fit.proofs.Lists.{each-of, each-append, each-halves, each-split, each-between, pairs-before, sum-append}
+use Rattle.fit.proofs.Lists.{each-of, each-append, each-halves, each-between, pairs-before, sum-append}
 
 -- multiples: of itself, of a multiple, and exactly where nothing is left of a division
-multiple-self : (m : ℕ) → Multiple m m
+pub multiple-self : (m : ℕ) → Multiple m m
 unfolding Multiple
 multiple-self m = (1, sym (mul-one m))
 
-multiple-trans : (a b c : ℕ) → Multiple a b → Multiple b c → Multiple a c
+pub multiple-trans : (a b c : ℕ) → Multiple a b → Multiple b c → Multiple a c
 unfolding Multiple
 multiple-trans a b c h k = (h .0 * k .0, k .1 ∙ rw (h .1) (mul-assoc a (h .0) (k .0)))
 
@@ -94,39 +94,34 @@ unfolding Multiple
 div-scale k m c pos h = rw (h .1, mul-assoc k (h .0) c, mul-div-right (h .0 * c) pos, mul-div-right (h .0) pos)
 
 -- at c times a multiple of all factors the load is c times as large
-load-scale : (e M : ℕ → ℕ) (D m c : ℕ) (l : List ℕ) → Each (λ i. 0 < M i) l → Each (λ i. Multiple (M i) m) l → load e M D (m * c) l ≡ load e M D m l * c
+pub load-scale : (e M : ℕ → ℕ) (D m c : ℕ) (l : List ℕ) → Each (λ i. 0 < M i) l → Each (λ i. Multiple (M i) m) l → load e M D (m * c) l ≡ load e M D m l * c
 unfolding load sum Each
 load-scale e M D m c [] pos h = sym (zero-mul c)
 load-scale e M D m c (i ∷ l) pos h =
     let own : e i * D * (m * c / M i) ≡ e i * D * (m / M i) * c = rw (div-scale (M i) m c (pos .0) (h .0)) (sym (mul-assoc (e i * D) (m / M i) c)) in
     omega (arith, load-scale e M D m c l (pos .1) (h .1), add-mul (e i * D * (m / M i)) (load e M D m l) c)
 
-module _ (e M : ℕ → ℕ) (D Q : ℕ) (l : List ℕ) (chain : Multiples M 1 l) (pos : Each (λ i. 0 < M i) l) (fits : load e M D (lastFactor M 1 l) l ≤ Q * lastFactor M 1 l) where
-  -- the load of each level, at its last factor, is at most one
-  pub level-load : (xs : List ℕ) (i : ℕ) (ys : List ℕ) → l ≡ xs ++ i ∷ ys → load e M D (M i) (xs ++ i ∷ []) ≤ Q * M i
-  unfolding load Each Multiple
-  level-load xs i ys s =
-      let L : ℕ = lastFactor M 1 l in
-      let level : List ℕ = xs ++ i ∷ [] in
-      let cut : l ≡ level ++ ys = s ∙ sym (append-snoc xs i ys) in
-      let part : load e M D L l ≡ load e M D L level + load e M D L ys = ap (load e M D L) cut ∙ sum-append _ level ys in
-      let positive : Each (λ j. 0 < M j) level = each-halves _ level ys (subst (Each (λ j. 0 < M j)) cut pos) .0 in
-      let before : Each (λ j. Multiple (M j) (M i)) xs = pairs-before _ xs i ys (subst (EachPair (λ j k. Multiple (M j) (M k))) s (multiples-pairs M 1 l chain)) in
-      let factors : Each (λ j. Multiple (M j) (M i)) level = each-append _ xs (i ∷ []) before (multiple-self (M i), tt) in
-      let (c, times) = each-between (λ j. Multiple (M j) L) xs i ys s (multiples-last M 1 l chain) in
-      let once : 0 < c = lt-of-mul-lt-mul-left (M i) (rw (mul-zero (M i), ← times) (last-positive M 1 l (omega arith) pos)) in
-      let whole : load e M D (M i * c) level ≤ Q * (M i * c) = rw (← times) (omega arith) in
-      le-of-mul-le-mul-right (omega (arith, load-scale e M D (M i) c level positive factors, mul-assoc Q (M i) c)) once
+-- at each level of a chain the factors are positive, and divide its last
+pub multiples-level : (M : ℕ → ℕ) (l : List ℕ) → Multiples M 1 l → Each (λ i. 0 < M i) l → (xs : List ℕ) (i : ℕ) (ys : List ℕ) → l ≡ xs ++ i ∷ ys → Each (λ j. 0 < M j) (xs ++ i ∷ []) × Each (λ j. Multiple (M j) (M i)) (xs ++ i ∷ [])
+unfolding Each
+multiples-level M l chain pos xs i ys s =
+    let cut : l ≡ xs ++ i ∷ [] ++ ys = s ∙ sym (append-snoc xs i ys) in
+    let before : Each (λ j. Multiple (M j) (M i)) xs = pairs-before _ xs i ys (subst (EachPair (λ j k. Multiple (M j) (M k))) s (multiples-pairs M 1 l chain)) in
+    (each-halves _ (xs ++ i ∷ []) ys (subst (Each (λ j. 0 < M j)) cut pos) .0, each-append _ xs (i ∷ []) before (multiple-self (M i), tt))
 
-  -- each budget is within w of its factor
-  pub budget-within : 0 < D → Each (λ i. e i ≤ within Q D (M i)) l
-  unfolding load sum within
-  budget-within d = each-split (λ i. e i ≤ within Q D (M i)) l (λ xs i ys s. le-div-iff-mul-le d .1 (budget xs i ys s))
-    where
-      budget : (xs : List ℕ) (i : ℕ) (ys : List ℕ) → l ≡ xs ++ i ∷ ys → e i * D ≤ Q * M i
-      budget xs i ys s =
-          let own : e i * D * (M i / M i) ≡ e i * D = rw (div-self (each-between (λ j. 0 < M j) xs i ys s pos), mul-one) in
-          omega (arith, level-load xs i ys s, sum-append (λ j. e j * D * (M i / M j)) xs (i ∷ []))
+-- where the load of the whole list is at most one, so is that of each level, at its last factor
+pub level-load : (e M : ℕ → ℕ) (D Q : ℕ) (l : List ℕ) → Multiples M 1 l → Each (λ i. 0 < M i) l → load e M D (lastFactor M 1 l) l ≤ Q * lastFactor M 1 l → (xs : List ℕ) (i : ℕ) (ys : List ℕ) → l ≡ xs ++ i ∷ ys → load e M D (M i) (xs ++ i ∷ []) ≤ Q * M i
+unfolding load Each Multiple
+level-load e M D Q l chain pos fits xs i ys s =
+    let L : ℕ = lastFactor M 1 l in
+    let level : List ℕ = xs ++ i ∷ [] in
+    let cut : l ≡ level ++ ys = s ∙ sym (append-snoc xs i ys) in
+    let part : load e M D L l ≡ load e M D L level + load e M D L ys = ap (load e M D L) cut ∙ sum-append _ level ys in
+    let (positive, factors) = multiples-level M l chain pos xs i ys s in
+    let (c, times) = each-between (λ j. Multiple (M j) L) xs i ys s (multiples-last M 1 l chain) in
+    let once : 0 < c = lt-of-mul-lt-mul-left (M i) (rw (mul-zero (M i), ← times) (last-positive M 1 l (omega arith) pos)) in
+    let whole : load e M D (M i * c) level ≤ Q * (M i * c) = rw (← times) (omega arith) in
+    le-of-mul-le-mul-right (omega (arith, load-scale e M D (M i) c level positive factors, mul-assoc Q (M i) c)) once
 
 -- w is at most the period where acceleration holds
 pub within-period : (Q D M p : ℕ) → Q * M ≤ p * D → within Q D M ≤ p

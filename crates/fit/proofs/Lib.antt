@@ -16,3 +16,4 @@ pub mod Filling
 pub mod Overwriting
 pub mod Firsts
 pub mod Periodic
+pub mod Blocking

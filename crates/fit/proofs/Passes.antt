@@ -1,19 +1,20 @@
--- One pass over a list of tasks, step by step as the code goes: the chain of factors and the load.
+-- One pass over a list of tasks, step by step as the code goes: the chain of factors, the load, and the load at each task.
 -- Assumes nothing.
-use Prim.Native.Nat.{ℕ, _+_, _*_, _/_, _%_, _≤_, _<_, zero-le}
+use Prim.Native.Nat.{ℕ, _+_, _-_, _*_, _/_, _%_, _≤_, _<_, zero-le, min}
 use mathlib.Core.Path.{_≡_, refl, sym, _∙_}
-use mathlib.Core.Bool.{Bool, true, false, not, _&&_, and-false}
+use mathlib.Core.Bool.{Bool, true, false, not, _&&_, and-false, or-true}
 use mathlib.Core.List.{List}
-use native.Mathlib.Nat.{zero-add, mul-zero, div-zero, mul-le-mul, div-le-self, le-trans}
+use native.Mathlib.Nat.{zero-add, mul-zero, mul-assoc, div-zero, mul-le-mul, mul-le-mul-right, mul-div-le, div-le-self, le-trans}
 use native.Mathlib.Numerals.{add-one}
 use native.Mathlib.Omega.{arith}
-use borrow.Author.Tests.{le-leb, lt-leb, not-true, not-false}
+use borrow.Author.Tests.{le-leb, lt-leb, le-ltb, lt-ltb, not-true, not-false}
 use lib.ListN.{length, getD, drop, drop-of-length-le}
 use lib.Seq.{drop-cons}
 use lib.Dec.{leb, eqb}
 use Rattle.fit.specs.declared.Chain.the-variants.{Whole, Broken}
 use Rattle.fit.specs.Lists.{sum}
 use Rattle.fit.specs.Fits.{chainBreak, lastFactor, load}
+use Rattle.fit.specs.Steps.{overAlong, overFromFirst}
 use Rattle.fit.specs.Answers.{chainAnswer, chained, loadInRange}
 
 -- the chain from place i on, where the factor before it is d
@@ -86,3 +87,48 @@ module _ (e M : ℕ → ℕ) (D L : ℕ) (l : List ℕ) where
   pub length-out : 64 < length l → 0 ≡ loadInRange e M D L l
   unfolding loadInRange
   length-out h = rw (lt-leb (length l) 64 h, and-false (leb D 120000 && leb L 120000))
+
+-- what a stroke takes, where the divisor is of four bytes
+pub held-bound : (q d : ℕ) → q < 256 → d < 4294967296 → (q - 1) * d ≤ 1095216660225
+held-bound q d hq hd =
+    let a : q - 1 ≤ 255 = omega arith in
+    let b : d ≤ 4294967295 = omega arith in
+    mul-le-mul a b
+
+-- the two parts of the load at a task, where the load before it was within the greatest pivot
+pub level-bound : (above d m e D : ℕ) → above ≤ 65535 * d → m < 4294967296 → e < 65536 → D < 4294967296 → (above * (m / d) ≤ 281470681677825) × (e * D ≤ 281470681677825)
+level-bound above d m e D h hm he hD =
+    let a : above * (m / d) ≤ 65535 * (d * (m / d)) = rw (← (mul-assoc 65535 d (m / d))) (mul-le-mul-right (m / d) h) in
+    let b : d * (m / d) ≤ m = mul-div-le m d in
+    let x : e ≤ 65535 = omega arith in
+    let y : D ≤ 4294967295 = omega arith in
+    (omega (arith, a, b), mul-le-mul x y)
+
+-- rule 14 from place i on
+pub record Levelled (e q M : ℕ → ℕ) (Q D : ℕ) (l : List ℕ) (above d room i : ℕ) : Type 0 where
+  pub left : overFromFirst e q M Q D l ≡ overAlong e q M Q D above d room (drop i l)
+  pub bound : above ≤ 65535 * d
+
+pub level-start : (e q M : ℕ → ℕ) (Q D : ℕ) (l : List ℕ) → Levelled e q M Q D l 0 1 1099511627776 0
+unfolding overFromFirst
+level-start e q M Q D l = record { left = refl; bound = zero-le }
+
+module _ (e q M : ℕ → ℕ) (Q D : ℕ) (l : List ℕ) (above d room i : ℕ) (h : i < length l) (k : Levelled e q M Q D l above d room i) where
+  pub stroke-over : (x s : ℕ) → x ≡ q (getD l i 0) → s ≡ (x - 1) * D → room < s → true ≡ overFromFirst e q M Q D l
+  unfolding overAlong
+  stroke-over x s ex es t = sym (k .left ∙ rw (drop-cons l i 0 h, ← ex, ← es, lt-ltb room s t))
+
+  module _ (m y level full : ℕ) (em : m ≡ M (getD l i 0)) (ey : y ≡ e (getD l i 0)) (en : level ≡ above * (m / d) + y * D) (ef : full ≡ Q * m) where
+    pub level-over : full < level → true ≡ overFromFirst e q M Q D l
+    unfolding overAlong
+    level-over t = sym (k .left ∙ rw (drop-cons l i 0 h, ← em, ← ey, ← en, ← ef, lt-ltb full level t, or-true))
+
+    pub level-turn : (x s r : ℕ) → x ≡ q (getD l i 0) → s ≡ (x - 1) * D → s ≤ room → level ≤ full → r ≡ min room (full - level) → Q < 65536 → Levelled e q M Q D l level m r (i + 1)
+    unfolding overAlong
+    level-turn x s r ex es a b er small =
+        let f : full ≤ 65535 * m = rw ef (mul-le-mul-right m (omega arith)) in
+        record { left = k .left ∙ rw (drop-cons l i 0 h, ← ex, ← es, ← em, ← ey, ← en, ← ef, ← er, le-ltb room s a, le-ltb full level b, add-one i); bound = le-trans b f }
+
+pub level-end : (e q M : ℕ → ℕ) (Q D : ℕ) (l : List ℕ) (above d room i : ℕ) → length l ≤ i → Levelled e q M Q D l above d room i → false ≡ overFromFirst e q M Q D l
+unfolding overAlong
+level-end e q M Q D l above d room i h k = sym (k .left ∙ rw (drop-of-length-le l {i = i} h))

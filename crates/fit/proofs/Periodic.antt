@@ -1,18 +1,20 @@
--- A core keeps rules 12, 13 and 14 exactly when its tasks are an accelerated simply periodic set that rises in priority order.
+-- A core keeps rules 12, 13 and 14 exactly when its tasks are an accelerated simply periodic set, strokes
+-- included, that rises in priority order.
 -- Assumes nothing.
 use Prim.Native.Nat.{ℕ, _+_, _*_, _/_, _≤_, _<_}
 use mathlib.Core.Path.{_≡_, refl, sym, _∙_}
 use mathlib.Core.Logic.{_↔_}
 use mathlib.Core.Bool.{true}
 use mathlib.Core.Option.{some}
-use mathlib.Core.List.{List, [], _∷_}
+use mathlib.Core.List.{List, [], _∷_, _++_}
 use native.Mathlib.Nat.{mul-one, one-mul, mul-zero, zero-mul, mul-assoc, mul-comm, mul-right-comm, mul-mul-mul-comm, mul-div-right, add-mul, mul-pos, mul-le-mul-left, mul-le-mul-right, le-of-mul-le-mul-left, le-of-mul-le-mul-right, eq-of-mul-eq-mul-left, eq-of-mul-eq-mul-right, lt-of-mul-lt-mul-left}
 use native.Mathlib.Omega.{arith}
 use Rattle.fit.specs.Lists.{at, sum, Each, EachPair}
-use Rattle.fit.specs.Fits.{stretched, overloaded, within, chainBreak, Multiple, Multiples, lastFactor, load, exactLoad, fullLoad}
-use Rattle.fit.specs.Periodic.{Fraction, wholeNumber, AtMost, Times, WholeRatio, plus, total, accelerated, utilisation, AcceleratedSet, Rising}
-use Rattle.fit.proofs.Lists.{each-of, each-all, pairs-of, pairs-both}
-use Rattle.fit.proofs.Levels.{multiples-pairs, multiples-last, last-positive}
+use Rattle.fit.specs.Fits.{stretched, overloaded, within, chainBreak, Multiple, Multiples, lastFactor, load, exactLoad, fullLoad, blocking, levelLoad, LevelsFit}
+use Rattle.fit.specs.Periodic.{Fraction, wholeNumber, AtMost, Times, WholeRatio, plus, total, accelerated, utilisation, AcceleratedSet, BlockedSet, Rising}
+use Rattle.fit.proofs.Lists.{each-of, each-all, each-between, pairs-of, pairs-both}
+use Rattle.fit.proofs.Levels.{multiples-pairs, multiples-last, multiples-level, last-positive}
+use Rattle.fit.proofs.Blocking.{levels-full}
 
 module _ (M : ℕ → ℕ) (Q D : ℕ) (q : 1 ≤ Q) (d : 1 ≤ D) where
   -- accelerated periods compare as their factors do
@@ -103,29 +105,53 @@ module _ (e M : ℕ → ℕ) (Q D : ℕ) (q : 1 ≤ Q) where
         (λ h. le-of-mul-le-mul-right (rw (left, right) (mul-le-mul-right b h)) (mul-pos q pos)),
       )
 
-module _ (p e M : ℕ → ℕ) (Q D : ℕ) (q : 1 ≤ Q) (d : 1 ≤ D) (l : List ℕ) (pos : Each (λ i. 1 ≤ M i) l) where
+  -- with a part held for b ticks of the accelerated period of the last task, they take at most the whole time exactly where the load at its
+  -- factor, with b × D, is at most Q times that factor
+  held-at-most : (b i : ℕ) (l : List ℕ) → 1 ≤ M i → Each (λ j. 1 ≤ M j) l → Each (λ j. Multiple (M j) (M i)) l → AtMost (plus (total (part e M Q D) l) (utilisation b (accelerated M Q D i))) (wholeNumber 1) ↔ (load e M D (M i) l + b * D ≤ Q * M i)
+  unfolding AtMost plus utilisation accelerated wholeNumber
+  held-at-most b i l one p m =
+      let low : ℕ = total (part e M Q D) l .lower in
+      let left : (total (part e M Q D) l .upper * (Q * M i) + b * D * low) * 1 ≡ (load e M D (M i) l + b * D) * low = mul-one _ ∙ rw (total-load (M i) l p m) (sym (add-mul (load e M D (M i) l) (b * D) low)) in
+      let right : 1 * (low * (Q * M i)) ≡ Q * M i * low = one-mul _ ∙ mul-comm low (Q * M i) in (
+        (λ h. le-of-mul-le-mul-right (rw (← left, ← right) h) (lower-positive l p)),
+        (λ h. rw (left, right) (mul-le-mul-right low h)),
+      )
+
+module _ (p e s M : ℕ → ℕ) (Q D : ℕ) (q : 1 ≤ Q) (d : 1 ≤ D) (l : List ℕ) (pos : Each (λ i. 1 ≤ M i) l) where
   load-exactly : Multiples M 1 l → AtMost (total (part e M Q D) l) (wholeNumber 1) ↔ (exactLoad e M D l ≤ fullLoad M Q l)
   unfolding wholeNumber
   load-exactly m = rw (one-mul (exactLoad e M D l), one-mul (fullLoad M Q l)) at (total-at-most e M Q D q 1 1 (lastFactor M 1 l) l (last-positive M 1 l (omega arith) pos) pos (multiples-last M 1 l m))
 
-  -- The tasks of a core are an accelerated simply periodic set that rises in priority order exactly when rules 12, 13 and 14 hold of them.
-  pub paper-exactly : (AcceleratedSet p e M Q D l × Rising M Q D l) ↔ (Each (λ i. Q * M i ≤ p i * D) l × Multiples M 1 l × (exactLoad e M D l ≤ fullLoad M Q l))
+  -- the same at each task, with the strokes s of those below it
+  pub blocked-exactly : Multiples M 1 l → BlockedSet e s M Q D l ↔ LevelsFit e s M Q D l
+  unfolding BlockedSet LevelsFit levelLoad
+  blocked-exactly m = ((λ h xs i ys t. at-level xs i ys t .0 (h xs i ys t)), (λ h xs i ys t. at-level xs i ys t .1 (h xs i ys t)))
+    where
+      at-level : (xs : List ℕ) (i : ℕ) (ys : List ℕ) → l ≡ xs ++ i ∷ ys → AtMost (plus (total (part e M Q D) (xs ++ i ∷ [])) (utilisation (blocking s ys) (accelerated M Q D i))) (wholeNumber 1) ↔ (load e M D (M i) (xs ++ i ∷ []) + blocking s ys * D ≤ Q * M i)
+      at-level xs i ys t =
+          let (positive, factors) = multiples-level M l m pos xs i ys t in
+          held-at-most e M Q D q (blocking s ys) i (xs ++ i ∷ []) (each-between (λ j. 1 ≤ M j) xs i ys t pos) positive factors
+
+  -- The tasks of a core are an accelerated simply periodic set, also with what a task below each may hold the core for, and rise in priority
+  -- order exactly when rules 12, 13 and 14 hold of them.
+  pub paper-exactly : (AcceleratedSet p e M Q D l × BlockedSet e s M Q D l × Rising M Q D l) ↔ (Each (λ i. Q * M i ≤ p i * D) l × Multiples M 1 l × LevelsFit e s M Q D l)
   unfolding AtMost accelerated wholeNumber Rising
   paper-exactly = (to, back)
     where
-      to : AcceleratedSet p e M Q D l × Rising M Q D l → Each (λ i. Q * M i ≤ p i * D) l × Multiples M 1 l × (exactLoad e M D l ≤ fullLoad M Q l)
+      to : AcceleratedSet p e M Q D l × BlockedSet e s M Q D l × Rising M Q D l → Each (λ i. Q * M i ≤ p i * D) l × Multiples M 1 l × LevelsFit e s M Q D l
       to t =
-          let m : Multiples M 1 l = pairs-chain M 1 l (each-all _ l (λ i. from-one (M i))) (pairs-both l (pair-multiple M Q D q d) (t .0 .simply-periodic) (t .1)) in
-          (each-of l (λ i h. omega arith) (t .0 .faster), m, load-exactly m .0 (t .0 .full))
+          let m : Multiples M 1 l = pairs-chain M 1 l (each-all _ l (λ i. from-one (M i))) (pairs-both l (pair-multiple M Q D q d) (t .0 .simply-periodic) (t .2)) in
+          (each-of l (λ i h. omega arith) (t .0 .faster), m, blocked-exactly m .0 (t .1))
 
-      back : Each (λ i. Q * M i ≤ p i * D) l × Multiples M 1 l × (exactLoad e M D l ≤ fullLoad M Q l) → AcceleratedSet p e M Q D l × Rising M Q D l
+      back : Each (λ i. Q * M i ≤ p i * D) l × Multiples M 1 l × LevelsFit e s M Q D l → AcceleratedSet p e M Q D l × BlockedSet e s M Q D l × Rising M Q D l
       back t =
           let pairs = multiples-pairs M 1 l (t .1) in (
             record {
               faster = each-of l (λ i h. omega arith) (t .0);
               simply-periodic = pairs-of l (λ i j a b h. multiple-pair M Q D q d i j b h) pos pairs;
-              full = load-exactly (t .1) .1 (t .2);
+              full = load-exactly (t .1) .1 (levels-full e s M Q D l (t .2));
             },
+            blocked-exactly (t .1) .1 (t .2),
             pairs-of l (λ i j a b h. periods-rise M Q D q d i j (multiple-rises M Q D q d i j b h)) pos pairs,
           )
 

@@ -1,10 +1,10 @@
--- When a core fits: acceleration, simply periodic factors, load at most one; and the bound w (docs/SHEET.md, section 3).
--- p, e and M are by task number; Q and D are the core's. The list is the core's tasks in priority order.
-use Prim.Native.Nat.{ℕ, _*_, _/_, _%_}
+-- When a core fits: acceleration, simply periodic factors, load at most one; the bound w (docs/SHEET.md, section 3); and the load with
+-- strokes (section 14). p, e, q and M are by task number; Q and D are the core's. The list is the core's tasks in priority order.
+use Prim.Native.Nat.{ℕ, _+_, _-_, _*_, _/_, _%_, _≤_, max}
 use mathlib.Core.Path.{_≡_}
-use mathlib.Core.Bool.{Bool, cond}
+use mathlib.Core.Bool.{Bool, false, cond, _||_}
 use mathlib.Core.Option.{Option, none, some}
-use mathlib.Core.List.{List, [], _∷_}
+use mathlib.Core.List.{List, [], _∷_, _++_}
 use lib.Dec.{ltb, eqb}
 use Rattle.fit.specs.Lists.{sum}
 
@@ -43,9 +43,31 @@ exactLoad e M D l = load e M D (lastFactor M 1 l) l
 abbrev pub fullLoad : (ℕ → ℕ) → ℕ → List ℕ → ℕ
 fullLoad M Q l = Q * lastFactor M 1 l
 
--- 14 Overload: the load is above one.
+-- the load is above one, which is 14 Overload where every stroke is of one tick
 unfoldable pub overloaded : (ℕ → ℕ) → (ℕ → ℕ) → ℕ → ℕ → List ℕ → Bool
 overloaded e M Q D l = ltb (fullLoad M Q l) (exactLoad e M D l)
+
+-- B of a task, by the list of the tasks below it: the largest q - 1 among them, 0 where there are none
+unfoldable pub blocking : (ℕ → ℕ) → List ℕ → ℕ
+blocking q [] = 0
+blocking q (i ∷ l) = max (q i - 1) (blocking q l)
+
+-- The load at task i with the tasks xs above it and ys below it: the sum of e × D × (M i / M) over it and those above it, plus B × D.
+unfoldable pub levelLoad : (e q M : ℕ → ℕ) → ℕ → List ℕ → ℕ → List ℕ → ℕ
+levelLoad e q M D xs i ys = load e M D (M i) (xs ++ i ∷ []) + blocking q ys * D
+
+-- at some task of a list, which has the tasks xs above it, the load at the task is above Q × M
+unfoldable pub overloadedBelow : (e q M : ℕ → ℕ) → ℕ → ℕ → List ℕ → List ℕ → Bool
+overloadedBelow e q M Q D xs [] = false
+overloadedBelow e q M Q D xs (i ∷ l) = ltb (Q * M i) (levelLoad e q M D xs i l) || overloadedBelow e q M Q D (xs ++ i ∷ []) l
+
+-- 14 Overload: at some task of the core
+unfoldable pub levelOverloaded : (e q M : ℕ → ℕ) → ℕ → ℕ → List ℕ → Bool
+levelOverloaded e q M Q D l = overloadedBelow e q M Q D [] l
+
+-- the opposite as a proposition: at each task the load is at most Q × M
+unfoldable pub LevelsFit : (e q M : ℕ → ℕ) → ℕ → ℕ → List ℕ → Type 0
+LevelsFit e q M Q D l = (xs : List ℕ) (i : ℕ) (ys : List ℕ) → l ≡ xs ++ i ∷ ys → levelLoad e q M D xs i ys ≤ Q * M i
 
 -- w, the whole part of the accelerated period Q × M / D
 unfoldable pub within : ℕ → ℕ → ℕ → ℕ

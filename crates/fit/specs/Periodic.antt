@@ -2,8 +2,9 @@
 -- p, e and M are by task number; Q and D are the core's. The list is the core's tasks in priority order.
 use Prim.Native.Nat.{ℕ, _+_, _*_, _≤_}
 use mathlib.Core.Path.{_≡_}
-use mathlib.Core.List.{List, [], _∷_}
+use mathlib.Core.List.{List, [], _∷_, _++_}
 use Rattle.fit.specs.Lists.{Each, EachPair}
+use Rattle.fit.specs.Fits.{blocking}
 
 -- a fraction of two whole numbers, never rounded; the lower one is not 0
 pub record Fraction : Type 0 where
@@ -49,6 +50,12 @@ pub record AcceleratedSet (p e M : ℕ → ℕ) (Q D : ℕ) (l : List ℕ) : Typ
   pub faster : Each (λ i. AtMost (accelerated M Q D i) (wholeNumber (p i))) l
   pub simply-periodic : EachPair (λ i j. WholeRatio (accelerated M Q D i) (accelerated M Q D j)) l
   pub full : AtMost (total (λ i. utilisation (e i) (accelerated M Q D i)) l) (wholeNumber 1)
+
+-- with strokes q: at each task, with the tasks xs above it and ys below it, what it and those above it take of the time, and what a task
+-- below it may hold the core for of its accelerated period, are together at most the whole
+unfoldable pub BlockedSet : (e q M : ℕ → ℕ) (Q D : ℕ) → List ℕ → Type 0
+BlockedSet e q M Q D l =
+    (xs : List ℕ) (i : ℕ) (ys : List ℕ) → l ≡ xs ++ i ∷ ys → AtMost (plus (total (λ j. utilisation (e j) (accelerated M Q D j)) (xs ++ i ∷ [])) (utilisation (blocking q ys) (accelerated M Q D i))) (wholeNumber 1)
 
 -- in priority order the accelerated periods do not fall
 unfoldable pub Rising : (ℕ → ℕ) → ℕ → ℕ → List ℕ → Type 0

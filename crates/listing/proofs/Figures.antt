@@ -20,6 +20,7 @@ use Rattle.fit.specs.Answers.{Column, Ordered, chainAnswer, chained, loadInRang
 use Rattle.fit.proofs.Lists.{each-of}
 use Rattle.fit.proofs.Priority.{order-members, order-count, order-ext}
 use Rattle.fit.proofs.Levels.{multiples-chain, load-last, last-positive, within-period}
+use Rattle.fit.proofs.Blocking.{levels-full}
 use Rattle.fit.specs.Cores.{orderOn}
 use Rattle.checker.specs.Accepted.{Fitting, LoadAtMostOne}
 use Rattle.listing.specs.Listing.{thousandths, loadOf}
@@ -97,7 +98,7 @@ module _ (f : Figures) (k : ℕ) (periods : List ℕ) (o : Order) (chain : Chain
 
         pub load-full : r ≤ full
         unfolding LoadAtMostOne
-        load-full = rw (ef, eq, is-last, found) (g .fits .load k h)
+        load-full = rw (ef, eq, is-last, found) (levels-full _ _ _ _ _ _ (g .fits .load k h))
 
         pub full-range : full ≤ 7200000000
         full-range =

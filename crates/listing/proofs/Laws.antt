@@ -18,6 +18,7 @@ use Rattle.fit.proofs.Lists.{each-append, each-of}
 use Rattle.fit.proofs.Ceiling.{ceiling-reaches, ceiling-least, ceiling-whole, ceiling-before, ceiling-positive}
 use Rattle.fit.proofs.Priority.{order-members, order-holds}
 use Rattle.fit.proofs.Levels.{multiples-last, load-above}
+use Rattle.fit.proofs.Blocking.{levels-full}
 use Rattle.fit.proofs.Periodic.{total-at-most}
 use Rattle.fit.specs.Cores.{orderOn, withinOn}
 use Rattle.checker.specs.Accepted.{Fitting, LoadAtMostOne}
@@ -110,7 +111,7 @@ module _ (f : Figures) (k : ℕ) (g : Fitting f) (h : k < f .cores) where
   -- The load shown is 1 to 1000.
   pub load-range : (1 ≤ loadOf f k) × (loadOf f k ≤ 1000)
   unfolding loadOf thousandths LoadAtMostOne
-  load-range = (ceiling-positive (1000 * exact) full full-above (omega (arith, exact-above)), load-shown .1 1000 (mul-le-mul-left 1000 (g .fits .load k h)))
+  load-range = (ceiling-positive (1000 * exact) full full-above (omega (arith, exact-above)), load-shown .1 1000 (mul-le-mul-left 1000 (levels-full _ _ _ _ _ _ (g .fits .load k h))))
 
   -- One thousandth less than it is below the exact load.
   pub load-less : (loadOf f k - 1) * full < 1000 * exact
@@ -127,6 +128,7 @@ thirds =
       period = λ i. 3;
       budget = λ i. 1;
       core = λ i. 0;
+      stroke = λ i. 1;
       factor = λ i. 1;
       pivot = λ k. 3;
       divisor = λ k. 1;

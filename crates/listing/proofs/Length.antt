@@ -15,7 +15,7 @@ use lib.Dec.{eqb}
 use Rattle.sheet.specs.Table.{Refused, Row, _at_, scan, whole, core}
 use Rattle.sheet.specs.Numbers.{word}
 use Rattle.sheet.specs.Records.{Figures, taskCount, coreCount}
-use Rattle.sheet.specs.Views.{isGrouped, positionedIn, figures}
+use Rattle.sheet.specs.Views.{isGrouped, isStroked, positionedIn, figures}
 use Rattle.fit.specs.Lists.{numbers, find, orElse, findSome, Each, joined}
 use Rattle.fit.specs.Fits.{chainBreak}
 use Rattle.fit.proofs.Lists.{each-of, each-append, numbers-length}
@@ -87,9 +87,10 @@ all-lines : (line : ℕ → List ℕ) (most n : ℕ) → ((i : ℕ) → i < n �
 all-lines line most n h =
     rw (numbers-length 0 n) at (lines-short line most (numbers 0 n) (each-of (numbers 0 n) (λ i q. h i (rw zero-add at q)) (numbers-in 0 n)))
 
-version-small : (v : ℕ) → (v ≡ 1) ⊎ (v ≡ 2) → v ≤ 120000
+version-small : (v : ℕ) → (v ≡ 1) ⊎ ((v ≡ 2) ⊎ (v ≡ 3)) → v ≤ 120000
 version-small v (inl e) = omega arith
-version-small v (inr e) = omega arith
+version-small v (inr (inl e)) = omega arith
+version-small v (inr (inr e)) = omega arith
 
 accepted-short : (s : List ℕ) → Acceptable s → length (sheetText (word s 3) (figures s)) ≤ 8192
 unfolding sheetText
@@ -134,7 +135,7 @@ Small : Option ℕ → Type 0
 Small o = (x : ℕ) → o ≡ some x → x ≤ 10000
 
 RowIn : Row → Type 0
-RowIn (k at o) = (k ≤ 23) × Small o
+RowIn (k at o) = (k ≤ 25) × Small o
 
 whole-in : (b : Bool) → Small (whole b)
 unfolding whole Small
@@ -161,10 +162,11 @@ place-in : (q : ℕ → Bool) (n : ℕ) → n ≤ 255 → Small (find q (numbers
 unfolding Small
 place-in q n h x e = omega (arith, found-in q n h x e)
 
-task-spares-in : (a n : ℕ) → Each (λ x. x ≤ a + 10 * n) (taskSpares a n)
+task-spares-in : (stroked : Bool) (a n : ℕ) → Each (λ x. x ≤ a + 10 * n) (taskSpares stroked a n)
 unfolding Each taskSpares
-task-spares-in a zero = tt
-task-spares-in a (suc n) = (omega arith, each-of (taskSpares (a + 10) n) (λ x h. omega arith) (task-spares-in (a + 10) n))
+task-spares-in true a n = tt
+task-spares-in false a zero = tt
+task-spares-in false a (suc n) = (omega arith, each-of (taskSpares false (a + 10) n) (λ x h. omega arith) (task-spares-in false (a + 10) n))
 
 core-spares-in : (grouped : Bool) (a c : ℕ) → Each (λ x. x ≤ a + 8 * c) (coreSpares grouped a c)
 unfolding Each coreSpares
@@ -177,12 +179,12 @@ frame-in : (s : List ℕ) → Each RowIn (frameRows s)
 unfolding Each RowIn frameRows
 frame-in s = ((omega arith, whole-in _), ((omega arith, whole-in _), ((omega arith, whole-in _), ((omega arith, whole-in _), ((omega arith, whole-in _), tt)))))
 
-spare-in : (grouped : Bool) (n c : ℕ) (s r : List ℕ) → n ≤ 255 → c ≤ 255 → Each RowIn (spareRows grouped n c s r)
+spare-in : (grouped stroked : Bool) (n c : ℕ) (s r : List ℕ) → n ≤ 255 → c ≤ 255 → Each RowIn (spareRows grouped stroked n c s r)
 unfolding Each RowIn Small spareRows
-spare-in grouped n c s r hn hc = (
+spare-in grouped stroked n c s r hn hc = (
   (omega arith, λ x e. find-in (λ y. y ≤ 10000) _ (7 ∷ []) x (omega arith, tt) e),
   (
-    (omega arith, offset-in _ (λ y e. omega (arith, find-in (λ y. y ≤ 0 + 10 * n) _ (taskSpares 0 n) y (task-spares-in 0 n) e))),
+    (omega arith, offset-in _ (λ y e. omega (arith, find-in (λ y. y ≤ 0 + 10 * n) _ (taskSpares stroked 0 n) y (task-spares-in stroked 0 n) e))),
     (
       (omega arith, offset-in _ (λ y e. omega (arith, find-in (λ y. y ≤ 10 * n + 8 * c) _ (coreSpares grouped (10 * n) c) y (core-spares-in grouped (10 * n) c) e))),
       tt,
@@ -193,7 +195,7 @@ spare-in grouped n c s r hn hc = (
 module _ (f : Figures) (hn : f .tasks ≤ 255) (hc : f .cores ≤ 255) where
   tasks-in : (b : Bool) → Each RowIn (taskRows b f)
   unfolding Each RowIn taskRows
-  tasks-in b = ((omega arith, place-in _ _ hn), ((omega arith, place-in _ _ hn), ((omega arith, whole-in b), ((omega arith, place-in _ _ hn), tt))))
+  tasks-in b = ((omega arith, place-in _ _ hn), ((omega arith, place-in _ _ hn), ((omega arith, place-in _ _ hn), ((omega arith, whole-in b), ((omega arith, place-in _ _ hn), tt)))))
 
   cores-in : Each RowIn (coreRows f)
   unfolding Each RowIn coreRows
@@ -218,17 +220,17 @@ unfolding rules partRows recordRows
 rules-in s b =
     let n = byte-in s 5 b in
     let c = byte-in s 6 b in
-    let f : Figures = positionedIn (isGrouped s) (taskCount s) (coreCount s) (drop 8 s) in
+    let f : Figures = positionedIn (isGrouped s) (isStroked s) (taskCount s) (coreCount s) (drop 8 s) in
     let o : Bool = badOrder (isGrouped s) f (drop 8 s) in
     each-append RowIn (frameRows s) _ (frame-in s)
-    (each-append RowIn (spareRows (isGrouped s) (taskCount s) (coreCount s) s (drop 8 s)) _ (spare-in (isGrouped s) (taskCount s) (coreCount s) s (drop 8 s) n c)
+    (each-append RowIn (spareRows (isGrouped s) (isStroked s) (taskCount s) (coreCount s) s (drop 8 s)) _ (spare-in (isGrouped s) (isStroked s) (taskCount s) (coreCount s) s (drop 8 s) n c)
     (each-append RowIn (taskRows o f) _ (tasks-in f n c o) (each-append RowIn (coreRows f) (fitRows f) (cores-in f n c) (fits-in f n c))))
 
-scan-in : (rows : List Row) (r : Refused) → Each RowIn rows → scan rows ≡ some r → (r .number ≤ 23) × (r .place ≤ 10000)
+scan-in : (rows : List Row) (r : Refused) → Each RowIn rows → scan rows ≡ some r → (r .number ≤ 25) × (r .place ≤ 10000)
 unfolding Each RowIn Small scan
 scan-in [] r h e = absurd (Option·none-ne-some r e)
 scan-in ((k at none) ∷ rows) r h e = scan-in rows r (h .1) e
-scan-in ((k at some x) ∷ rows) r h e = subst (λ (t : Refused). (t .number ≤ 23) × (t .place ≤ 10000)) (Option·some-injective _ r e) (h .0 .0, h .0 .1 x refl)
+scan-in ((k at some x) ∷ rows) r h e = subst (λ (t : Refused). (t .number ≤ 25) × (t .place ≤ 10000)) (Option·some-injective _ r e) (h .0 .0, h .0 .1 x refl)
 
 -- The text of any bytes is at most 8,192 bytes long.
 pub listing-short : (s : List ℕ) → Each (λ b. b < 256) s → length (listingOf s) ≤ 8192

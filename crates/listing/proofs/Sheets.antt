@@ -12,17 +12,16 @@ use lib.ListN.{length, take, drop, length-append, length-drop}
 use lib.Seq.{length-take-le}
 use Rattle.sheet.specs.Refusals.{numberOf}
 use Rattle.sheet.specs.Numbers.{word}
-use Rattle.sheet.specs.Records.{Figures, numberAt, figuresWith, taskCount, coreCount}
-use Rattle.sheet.specs.Views.{isGrouped, coreOfPosition, positionOfNumber, numberOfPosition, renumbered, byPosition, figures}
+use Rattle.sheet.specs.Records.{Figures, figuresWith, taskCount, coreCount}
+use Rattle.sheet.specs.Views.{isGrouped, isStroked, coreOfPosition, positionOfNumber, numberOfPosition, renumbered, byPosition, figures}
 use Rattle.sheet.specs.declared.Refusal.{Refusal}
 use Rattle.fit.specs.Lists.{numbers, at, joined, over}
 use Rattle.fit.specs.Answers.{Column}
 use Rattle.views.specs.Renamed.{Agree}
-use Rattle.views.proofs.ByNumber.{position-below}
 use Rattle.views.proofs.Renamed.{agree-renamed}
 use Rattle.checker.specs.declared.Verdict.{Verdict}
 use Rattle.checker.specs.declared.Verdict.the-variants.{Accepted, Refused as Rejected}
-use Rattle.checker.specs.Accepted.{Acceptable, Fitting, OrderKept}
+use Rattle.checker.specs.Accepted.{Acceptable, Fitting}
 use Rattle.checker.specs.Verdict.{accepted, verdict, outcomeOf}
 use Rattle.checker.proofs.Acceptance.{accepted-exactly}
 use Rattle.checker.proofs.Views.{agree-fits, position-in, sheet-renamed, views-fit}
@@ -30,10 +29,11 @@ use Rattle.fit.proofs.Lists.{part}
 use Rattle.listing.specs.declared.Listed.{Listed}
 use Rattle.listing.specs.declared.Listed.the-variants.{Written}
 use Rattle.listing.specs.Listing.{headerLine, taskLine, coreLine, sheetText, refusedLine, textOf, listingOf}
-use Rattle.listing.specs.Steps.{Put, Capped}
+use Rattle.listing.specs.Steps.{Put, Capped, oneTick}
 use Rattle.listing.specs.Answers.{written, refused, listed, holding, answerOf}
 use Rattle.listing.proofs.Writing.{put-join}
 use Rattle.listing.proofs.Agree.{cores-renamed, tasks-agree}
+use Rattle.listing.proofs.OneTick.{unbroken, unbroken-fits, unbroken-tasks, unbroken-cores}
 
 -- the text of an accepted sheet
 pub accepted-text : (s : List ℕ) (n c : ℕ) → verdict s ≡ accepted n c → listingOf s ≡ sheetText (word s 3) (figures s)
@@ -78,9 +78,9 @@ module _ (s : List ℕ) (n c : ℕ) (v : verdict s ≡ accepted n c) where
   -- with the cores by position and the positions by task number they hold its figures
   module _ (grouped : Bool) (on positions : List ℕ) (version-same : grouped ≡ isGrouped s) (cs : Column (coreOfPosition grouped c tasks cores) (min n 64) on) (ps : Column (positionOfNumber grouped (min n 64) tasks) (min n 64) positions) where
     abbrev f : Figures
-    f = figuresWith (at on) n c tasks cores
+    f = figuresWith (at on) oneTick n c tasks cores
 
-    positioned : Agree (byPosition s) f
+    positioned : Agree (unbroken (byPosition s)) f
     positioned =
         record {
           tasks = tasks-same;
@@ -88,6 +88,7 @@ module _ (s : List ℕ) (n c : ℕ) (v : verdict s ≡ accepted n c) where
           period = λ i h. rw task-part;
           budget = λ i h. rw task-part;
           core = λ i h. cs .below i (omega (arith, tasks-same, tasks-few)) ∙ rw (core-part, task-part, version-same, cores-same, tasks-same);
+          stroke = λ i h. refl;
           factor = λ i h. rw task-part;
           pivot = λ k h. rw (core-part, task-part, tasks-same);
           divisor = λ k h. rw (core-part, task-part, tasks-same);
@@ -99,9 +100,9 @@ module _ (s : List ℕ) (n c : ℕ) (v : verdict s ≡ accepted n c) where
         ps .below i (omega arith) ∙ rw (m, version-same, task-part)
 
     position-inside : (i : ℕ) → i < taskCount s → at positions i < taskCount s
-    position-inside i h = rw (position-same i h) (position-in (isGrouped s) (taskCount s) (coreCount s) (drop 8 s) (good .order) i h)
+    position-inside i h = rw (position-same i h) (position-in (isGrouped s) (isStroked s) (taskCount s) (coreCount s) (drop 8 s) (good .order) i h)
 
-    numbered : Agree (figures s) (renumbered (at positions) f)
+    numbered : Agree (unbroken (figures s)) (renumbered (at positions) f)
     numbered =
         record {
           tasks = tasks-same;
@@ -109,23 +110,25 @@ module _ (s : List ℕ) (n c : ℕ) (v : verdict s ≡ accepted n c) where
           period = λ i h. positioned .period (at positions i) (position-inside i h) ∙ ap (byPosition s .period) (position-same i h);
           budget = λ i h. positioned .budget (at positions i) (position-inside i h) ∙ ap (byPosition s .budget) (position-same i h);
           core = λ i h. positioned .core (at positions i) (position-inside i h) ∙ ap (byPosition s .core) (position-same i h);
+          stroke = λ i h. refl;
           factor = λ i h. positioned .factor (at positions i) (position-inside i h) ∙ ap (byPosition s .factor) (position-same i h);
           pivot = positioned .pivot;
           divisor = positioned .divisor;
         }
 
     pub sheet-fitting : Fitting f
-    sheet-fitting = agree-fits (byPosition s) f positioned .0 (good .fitting)
+    sheet-fitting = agree-fits (unbroken (byPosition s)) f positioned .0 (unbroken-fits (byPosition s) (good .fitting))
 
     pub sheet-positions : (i : ℕ) → i < n → at positions i < n
     sheet-positions i h = rw tasks-same (position-inside i (rw tasks-same at h))
 
     tasks-text : joined (taskLine (renumbered (at positions) f)) (numbers 0 n) ≡ joined (taskLine (figures s)) (numbers 0 (taskCount s))
-    tasks-text = tasks-agree (figures s) (renumbered (at positions) f) numbered (views-fit s (good .order) .0 (good .fitting) .tasks)
+    tasks-text = tasks-agree (unbroken (figures s)) (renumbered (at positions) f) numbered (unbroken-fits (figures s) (views-fit s (good .order) .0 (good .fitting)) .tasks) ∙ unbroken-tasks (figures s) _
 
     cores-text : joined (coreLine f) (numbers 0 c) ≡ joined (coreLine (figures s)) (numbers 0 (coreCount s))
     cores-text =
-        cores-renamed (byPosition s) f (λ i. i) (agree-renamed (byPosition s) f positioned)
+        cores-renamed (unbroken (byPosition s)) f (λ i. i) (agree-renamed (unbroken (byPosition s)) f positioned)
+        ∙ unbroken-cores (byPosition s) _
         ∙ sym (cores-renamed (byPosition s) (figures s) (numberOfPosition (isGrouped s) (drop 8 s)) (sheet-renamed s (good .order)))
 
     -- the text is the header, the tasks and the cores

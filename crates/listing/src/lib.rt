@@ -14,7 +14,7 @@ ghost use Rattle.checker.specs.Accepted.{Fitting};
 ghost use Rattle.checker.specs.Verdict.{verdict, accepted};
 ghost use Rattle.listing.specs.Decimal.{decimal};
 ghost use Rattle.listing.specs.Listing.{field, headerLine, taskLine, thousandths, loadOf, coreLine, sheetText, refusedLine};
-ghost use Rattle.listing.specs.Steps.{Put, Capped};
+ghost use Rattle.listing.specs.Steps.{Put, Capped, oneTick};
 ghost use Rattle.listing.specs.Answers.{listed, holding, answerOf};
 use checker::Verdict;
 use fit::Chain;
@@ -116,8 +116,8 @@ fn put_task(
     i: u8,
     j: u8,
 ) -> usize
-    requires { ⌜ Fitting (figuresWith (column (now on)) n c (now tasks) (now cores)) × (j < n) × (at + 114 ≤ length (now out)) ⌝ }
-    ensures { λ r. ⌜ Capped 114 (now (out .entry)) at (taskLine (renumbered (λ x. j) (figuresWith (column (now (on .entry))) n c (now (tasks .entry)) (now (cores .entry)))) i) (now (out .exit)) r ⌝ }
+    requires { ⌜ Fitting (figuresWith (column (now on)) oneTick n c (now tasks) (now cores)) × (j < n) × (at + 114 ≤ length (now out)) ⌝ }
+    ensures { λ r. ⌜ Capped 114 (now (out .entry)) at (taskLine (renumbered (λ x. j) (figuresWith (column (now (on .entry))) oneTick n c (now (tasks .entry)) (now (cores .entry)))) i) (now (out .exit)) r ⌝ }
 {
     let k = sheet::byte(on, j as usize);
     let p = sheet::period(tasks, j) as u32;
@@ -143,8 +143,8 @@ fn put_tasks(
     n: u8,
     c: u8,
 ) -> usize
-    requires { ⌜ Fitting (figuresWith (column (now on)) n c (now tasks) (now cores)) × ((i : ℕ) → i < n → column (now positions) i < n) × (at + 114 * n ≤ length (now out)) ⌝ }
-    ensures { λ r. ⌜ Capped (114 * n) (now (out .entry)) at (joined (taskLine (renumbered (column (now (positions .entry))) (figuresWith (column (now (on .entry))) n c (now (tasks .entry)) (now (cores .entry))))) (numbers 0 n)) (now (out .exit)) r ⌝ }
+    requires { ⌜ Fitting (figuresWith (column (now on)) oneTick n c (now tasks) (now cores)) × ((i : ℕ) → i < n → column (now positions) i < n) × (at + 114 * n ≤ length (now out)) ⌝ }
+    ensures { λ r. ⌜ Capped (114 * n) (now (out .entry)) at (joined (taskLine (renumbered (column (now (positions .entry))) (figuresWith (column (now (on .entry))) oneTick n c (now (tasks .entry)) (now (cores .entry))))) (numbers 0 n)) (now (out .exit)) r ⌝ }
 {
     let mut next = at;
     let mut i = 0;
@@ -167,8 +167,8 @@ fn in_thousandths(load: u64, full: u64) -> u32
 
 // The load of core k in thousandths.
 fn load_of(periods: &[u16], tasks: &[u8], cores: &[u8], on: &[u8], n: u8, c: u8, k: u8) -> u32
-    requires { ⌜ Column (periodAt (now tasks)) (min n 64) (now periods) × Fitting (figuresWith (column (now on)) n c (now tasks) (now cores)) × (n ≤ 64) × (k < c) ⌝ }
-    ensures { λ r. ⌜ r ≡ loadOf (figuresWith (column (now (on .entry))) n c (now (tasks .entry)) (now (cores .entry))) k ⌝ }
+    requires { ⌜ Column (periodAt (now tasks)) (min n 64) (now periods) × Fitting (figuresWith (column (now on)) oneTick n c (now tasks) (now cores)) × (n ≤ 64) × (k < c) ⌝ }
+    ensures { λ r. ⌜ r ≡ loadOf (figuresWith (column (now (on .entry))) oneTick n c (now (tasks .entry)) (now (cores .entry))) k ⌝ }
 {
     let order = fit::on_core(periods, on, n, k);
     let count = order.count;
@@ -194,8 +194,8 @@ fn put_core(
     c: u8,
     k: u8,
 ) -> usize
-    requires { ⌜ Column (periodAt (now tasks)) (min n 64) (now periods) × Fitting (figuresWith (column (now on)) n c (now tasks) (now cores)) × (n ≤ 64) × (k < c) × (at + 76 ≤ length (now out)) ⌝ }
-    ensures { λ r. ⌜ Capped 76 (now (out .entry)) at (coreLine (figuresWith (column (now (on .entry))) n c (now (tasks .entry)) (now (cores .entry))) k) (now (out .exit)) r ⌝ }
+    requires { ⌜ Column (periodAt (now tasks)) (min n 64) (now periods) × Fitting (figuresWith (column (now on)) oneTick n c (now tasks) (now cores)) × (n ≤ 64) × (k < c) × (at + 76 ≤ length (now out)) ⌝ }
+    ensures { λ r. ⌜ Capped 76 (now (out .entry)) at (coreLine (figuresWith (column (now (on .entry))) oneTick n c (now (tasks .entry)) (now (cores .entry))) k) (now (out .exit)) r ⌝ }
 {
     let load = load_of(periods, tasks, cores, on, n, c, k);
     let next = put_field(out, at, b"core ", k as u32, b' ');
@@ -214,8 +214,8 @@ fn put_cores(
     n: u8,
     c: u8,
 ) -> usize
-    requires { ⌜ Column (periodAt (now tasks)) (min n 64) (now periods) × Fitting (figuresWith (column (now on)) n c (now tasks) (now cores)) × (n ≤ 64) × (at + 76 * c ≤ length (now out)) ⌝ }
-    ensures { λ r. ⌜ Capped (76 * c) (now (out .entry)) at (joined (coreLine (figuresWith (column (now (on .entry))) n c (now (tasks .entry)) (now (cores .entry)))) (numbers 0 c)) (now (out .exit)) r ⌝ }
+    requires { ⌜ Column (periodAt (now tasks)) (min n 64) (now periods) × Fitting (figuresWith (column (now on)) oneTick n c (now tasks) (now cores)) × (n ≤ 64) × (at + 76 * c ≤ length (now out)) ⌝ }
+    ensures { λ r. ⌜ Capped (76 * c) (now (out .entry)) at (joined (coreLine (figuresWith (column (now (on .entry))) oneTick n c (now (tasks .entry)) (now (cores .entry)))) (numbers 0 c)) (now (out .exit)) r ⌝ }
 {
     let mut next = at;
     let mut k = 0;

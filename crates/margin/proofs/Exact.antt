@@ -29,19 +29,21 @@ use Rattle.checker.specs.Verdict.{verdict, accepted}
 use Rattle.checker.specs.Accepted.{Schedulable}
 use Rattle.checker.proofs.Views.{core-of}
 use Rattle.timing.specs.declared.Task.{Task}
-use Rattle.timing.specs.Calls.{Call, release, answer, next, log}
+use Rattle.timing.specs.Tasks.{pending}
+use Rattle.timing.specs.Calls.{Call, release, answerBy, nextBy, answer, next, log}
 use Rattle.timing.specs.Form.{Form}
 use Rattle.timing.specs.OnTime.{EndsBy, OnTime}
+use Rattle.timing.proofs.Plain.{Ones, plain-log}
 use Rattle.dispatcher.specs.Operations.{ask, step}
 use Rattle.dispatcher.specs.Starts.{freshTasks, stateOf, listAnswer, listState, FreshCore}
 use Rattle.dispatcher.proofs.Logs.{log-form}
-use Rattle.dispatcher.proofs.Starts.{state-tasks, state-places, state-form, list-fresh}
+use Rattle.dispatcher.proofs.Starts.{state-tasks, state-places, state-form, state-plain, list-fresh}
 use Rattle.dispatcher.proofs.Schedule.{level-room}
 use Rattle.margin.specs.Margin.{tasksAbove, request, demand, smallest, marginFrom, margin}
 use Rattle.margin.specs.Answers.{ticks, refused, marginIn, answerFrom, marginAnswer}
 use Rattle.margin.specs.Exact.{NoneBelowZero, NonePending, benchLog, PendingAfter, Exact, MarginsAtLeast}
 use Rattle.margin.proofs.Demands.{demand-level, Meets, Short, response, meets-or-short, meets-margin, meets-positive, positive-meets, margin-response, response-short}
-use Rattle.margin.proofs.Enough.{level, level-window, EachMeets, meets-on-time, meets-alone}
+use Rattle.margin.proofs.Enough.{benchTasks, bench-ones, level, level-window, EachMeets, meets-on-time, meets-alone}
 use Rattle.margin.proofs.Releases.{rounds}
 use Rattle.margin.proofs.Needed.{afterRelease, whole, first, ticks-after, not-ended, meets-front, each-meets}
 
@@ -75,9 +77,9 @@ demand-order p e n i = fun-ext (λ t. ap (λ (s : ℕ). e i + s) (same (request 
         let g : ℕ → ℕ = λ j. cond (above p j i) (f j) 0 in
         sum-select f (λ j. above p j i) (numbers 0 n) ∙ ap (sum g) (sym (all-tasks n)) ∙ sym (order-sum p (λ j. 0) 0 g n) ∙ sym (sum-select f (λ j. above p j i) (orderBy Period p n))
 
--- the log from the state of tasks in form is that of the tasks
-state-log : (ts : List Task) → Form ts → (cs : List Call) → log ask step (stateOf ts) cs ≡ log answer next ts cs
-state-log ts form cs = log-form cs (stateOf ts) (state-places ts (form .count)) (state-form ts form) ∙ ap (λ t. log answer next t cs) (state-tasks ts)
+-- the log from the state of tasks in form whose strokes are of one tick is that of the tasks
+state-log : (ts : List Task) → Ones ts → Form ts → (cs : List Call) → log ask step (stateOf ts) cs ≡ log (answerBy pending) (nextBy pending) ts cs
+state-log ts ones form cs = log-form cs (stateOf ts) (state-places ts (form .count)) (state-form ts form) ∙ ap (λ s. log answer next s cs) (state-plain ts) ∙ plain-log cs ts ones
 
 -- a list that is refused: no margin is answered, and no release is accepted
 refused-exact : (l : List ℕ) (r : Refused) → scan (listRows 0 l) ≡ some r → Exact l
@@ -101,7 +103,7 @@ refused-exact l r x = record {
     split (y ∷ xs) i ys s = let z : _≡_ {A = ℕ} 0 1 = cc in omega arith
 
     rule : (v : ℕ → ℕ) (cs : List Call) → OnTime v (jobBudget l) (benchLog l cs)
-    rule v cs = subst (OnTime v (jobBudget l)) (sym (ap (λ o. log ask step (listState o l) cs) x ∙ state-log [] form cs)) (meets-on-time (jobPeriod l) (jobBudget l) (λ j. 0) [] form tt (λ xs i ys s. absurd (split xs i ys s)) v tt cs)
+    rule v cs = subst (OnTime v (jobBudget l)) (sym (ap (λ o. log ask step (listState o l) cs) x ∙ state-log [] tt form cs)) (meets-on-time (jobPeriod l) (jobBudget l) (λ j. 0) [] form tt (λ xs i ys s. absurd (split xs i ys s)) v tt cs)
 
 -- a list that breaks no rule: its tasks in priority order, and for each the smallest t, or its period
 module _ (l : List ℕ) (clear : none ≡ scan (listRows 0 l)) where
@@ -135,13 +137,13 @@ module _ (l : List ℕ) (clear : none ≡ scan (listRows 0 l)) where
   budgets = each-of ord (λ i h. fine .budget i h .0) members
 
   -- its bench start
-  form : Form (freshTasks p e ord)
+  form : Form (benchTasks p e ord)
   unfolding listState listAnswer
-  form = subst Form (state-tasks (freshTasks p e ord)) (subst (λ o. FreshCore (listState o l)) (sym clear) (list-fresh l (ap listAnswer (sym clear))) .form .form)
+  form = subst Form (state-tasks (benchTasks p e ord)) (subst (λ o. FreshCore (listState o l)) (sym clear) (list-fresh l (ap listAnswer (sym clear))) .form .form .tasks)
 
-  bench : (cs : List Call) → benchLog l cs ≡ log answer next (freshTasks p e ord) cs
+  bench : (cs : List Call) → benchLog l cs ≡ log (answerBy pending) (nextBy pending) (benchTasks p e ord) cs
   unfolding listState
-  bench cs = ap (λ o. log ask step (listState o l) cs) (sym clear) ∙ state-log (freshTasks p e ord) form cs
+  bench cs = ap (λ o. log ask step (listState o l) cs) (sym clear) ∙ state-log (benchTasks p e ord) (bench-ones p e ord) form cs
 
   -- the sign of a margin
   meets-margin-in : (i : ℕ) → Meets (demand p e ord i) (p i) (w i) → pos 0 ≤ℤ marginIn l i
@@ -213,7 +215,7 @@ module _ (l : List ℕ) (clear : none ≡ scan (listRows 0 l)) where
       at xs i ys s lt =
           let own = meets xs i ys s in
           let short : Short (level p e xs i) t = subst (λ d. Short d t) (levels p e ord rising xs i ys s) (response-short (demand p e ord i) (p i) t lt (omega (arith, own .to))) in
-          let form′ = subst (λ x. Form (freshTasks p e x)) s form in
+          let form′ = subst (λ x. Form (benchTasks p e x)) s form in
           let periods′ = subst (Each (λ j. 1 ≤ p j)) s periods in
           let budget = each-between _ xs i ys s budgets in
           let higher = meets-front p e w ord xs i ys s meets in
@@ -221,8 +223,8 @@ module _ (l : List ℕ) (clear : none ≡ scan (listRows 0 l)) where
           record {
             calls = release i ∷ rounds xs t;
             before = [];
-            since = afterRelease (freshTasks p e (xs ++ i ∷ ys)) i (rounds xs t);
-            split = bench (release i ∷ rounds xs t) ∙ ap (λ x. log answer next (freshTasks p e x) (release i ∷ rounds xs t)) s ∙ whole p e (freshTasks p e (xs ++ i ∷ ys)) i (rounds xs t) first′;
+            since = afterRelease (benchTasks p e (xs ++ i ∷ ys)) i (rounds xs t);
+            split = bench (release i ∷ rounds xs t) ∙ ap (λ x. log (answerBy pending) (nextBy pending) (benchTasks p e x) (release i ∷ rounds xs t)) s ∙ whole p e (benchTasks p e (xs ++ i ∷ ys)) i (rounds xs t) first′;
             ticks-since = ticks-after p e w xs i ys form′ periods′ budget higher t short;
             pending = not-ended p e w xs i ys form′ periods′ budget higher t short;
           }
@@ -246,11 +248,11 @@ exact l = by (scan (listRows 0 l)) refl
     by (some r) x = refused-exact l r x
 
 -- a core that fits: each w meets the demand
-schedule-meets : (p e M : ℕ → ℕ) (Q D : ℕ) (l : List ℕ) → Schedulable p e M Q D l → EachMeets p e (λ i. within Q D (M i)) l
-schedule-meets p e M Q D l h xs i ys s =
+schedule-meets : (p e q M : ℕ → ℕ) (Q D : ℕ) (l : List ℕ) → Schedulable p e q M Q D l → EachMeets p e (λ i. within Q D (M i)) l
+schedule-meets p e q M Q D l h xs i ys s =
     let b = each-between _ xs i ys s (h .bounds) in
     let pos : 1 ≤ within Q D (M i) = omega (arith, b .0, each-between _ xs i ys s (h .budget) .0) in
-    record { from = pos; to = b .1; enough = omega (arith, level-window p e (within Q D (M i)) l xs i ys pos (b .1) (each-of l (λ j x. x .0) (h .period)) s, level-room p e M Q D l h xs i ys s) }
+    record { from = pos; to = b .1; enough = omega (arith, level-window p e q (within Q D (M i)) l xs i ys pos (b .1) (each-of l (λ j x. x .0) (h .period)) s, level-room p e q M Q D l h xs i ys s) }
 
 -- On each core of a sheet that the checker accepts each margin is at least p - w.
 pub sheet-margins : (s : List ℕ) (n c k : ℕ) → verdict s ≡ accepted n c → k < c → MarginsAtLeast s k
@@ -258,4 +260,4 @@ unfolding MarginsAtLeast margin withinOn
 sheet-margins s n c k v h =
     let f = figures s in
     let meets = core-of s n c k v h .schedulable in
-    each-of _ (λ i x. meets-margin (demand (f .period) (f .budget) (orderOn f k) i) (f .period i) (withinOn f k i) x) (level-meets (f .period) (f .budget) (orderOn f k) (meets .order) (withinOn f k) (schedule-meets _ _ _ _ _ _ meets))
+    each-of _ (λ i x. meets-margin (demand (f .period) (f .budget) (orderOn f k) i) (f .period i) (withinOn f k i) x) (level-meets (f .period) (f .budget) (orderOn f k) (meets .order) (withinOn f k) (schedule-meets _ _ _ _ _ _ _ meets))

@@ -14,14 +14,14 @@ use Rattle.fit.proofs.Lists.{each-both}
 use Rattle.fit.proofs.Ceiling.{ceiling-reaches}
 use Rattle.timing.specs.declared.Task.{Task}
 use Rattle.timing.specs.Tasks.{pending, withJob, released, used, older}
-use Rattle.timing.specs.Calls.{Call, tick, Answer, modify, answer, next, run}
+use Rattle.timing.specs.Calls.{Call, tick, Answer, modify, answerBy, nextBy, run}
 use Rattle.timing.specs.Serving.{nth}
 use Rattle.timing.proofs.Rate.{sumOf}
 use Rattle.timing.proofs.Lists.{zero-or-pos, each-map, nth-each, sum-map}
 use Rattle.timing.proofs.Runs.{run-kept, run-both}
-use Rattle.timing.proofs.Steps.{Release, is-early, is-late, starts, release-view, changed-pending, each-changed, bare, bare-next, length-next}
+use Rattle.timing.proofs.Steps.{Release, is-early, is-late, starts, release-view, changed-tick, each-changed, bare, bare-next, length-next}
 use Rattle.timing.proofs.Level.{work, work-used, work-older, work-tick}
-use Rattle.timing.proofs.OnTime.{Good, good-kept, young}
+use Rattle.timing.proofs.Plain.{PlainGood, plain-kept, plain-young}
 use Rattle.margin.specs.Margin.{request}
 use Rattle.margin.proofs.Ceilings.{ceiling-same, ceiling-more}
 use Rattle.margin.proofs.Enough.{level}
@@ -73,20 +73,20 @@ work-turned b [] h = refl
 work-turned b (t ∷ s) h = omega (arith, released-turned b t (h .0) .left, work-turned b s (h .1))
 
 -- and after the tick every task is in time again
-timed-next : (b : ℕ) (s : List Task) → Each (Waiting b) s → Each (Timed (b + 1)) (next tick (map released s))
-unfolding next used older withJob
-timed-next b s h = each-map (Due b) (Timed (b + 1)) older (modify pending used (map released s)) (λ t k. omega (arith, k .age, k .under)) (each-changed (Due b) (λ t k. record { age = k .age; under = k .under }) (changed-pending used (map released s)) (each-map (Waiting b) (Due b) released s (λ t k. released-turned b t k .due) h))
+timed-next : (b : ℕ) (s : List Task) → Each (Waiting b) s → Each (Timed (b + 1)) (nextBy pending tick (map released s))
+unfolding nextBy used older withJob
+timed-next b s h = each-map (Due b) (Timed (b + 1)) older (modify pending used (map released s)) (λ t k. omega (arith, k .age, k .under)) (each-changed (Due b) (λ t k. record { age = k .age; under = k .under }) (changed-tick pending used (map released s)) (each-map (Waiting b) (Due b) released s (λ t k. released-turned b t k .due) h))
 
 -- a call changes no number, and no sum of figures
-figures-next : (f : Task → ℕ) → ((t : Task) → f (bare t) ≡ f t) → (c : Call) (s : List Task) → sumOf f (next c s) ≡ sumOf f s
-figures-next f same c s = sym (of-bare (next c s)) ∙ ap (sumOf f) (bare-next c s) ∙ of-bare s
+figures-next : (f : Task → ℕ) → ((t : Task) → f (bare t) ≡ f t) → (c : Call) (s : List Task) → sumOf f (nextBy pending c s) ≡ sumOf f s
+figures-next f same c s = sym (of-bare (nextBy pending c s)) ∙ ap (sumOf f) (bare-next pending c s) ∙ of-bare s
   where
     of-bare : (s : List Task) → sumOf f (map bare s) ≡ sumOf f s
     of-bare s = sum-map f bare s ∙ ap (λ g. sumOf g s) (λ i t. same t i)
 
-numbers-next : (c : Call) (s : List Task) → numbersOf (next c s) ≡ numbersOf s
+numbers-next : (c : Call) (s : List Task) → numbersOf (nextBy pending c s) ≡ numbersOf s
 unfolding bare withJob
-numbers-next c s = sym (map-map (λ t. t .number) bare (next c s)) ∙ ap numbersOf (bare-next c s) ∙ map-map (λ t. t .number) bare s
+numbers-next c s = sym (map-map (λ t. t .number) bare (nextBy pending c s)) ∙ ap numbersOf (bare-next pending c s) ∙ map-map (λ t. t .number) bare s
 
 -- all work of a list of tasks and one more
 work-last : (s : List Task) (t : Task) → work (s ++ t ∷ []) ≡ work s + t .left
@@ -95,23 +95,23 @@ work-last [] t = omega arith
 work-last (u ∷ s) t = omega (arith, work-last s t)
 
 -- a tick takes one from the work, if there is any
-tick-work : (s : List Task) → 0 < work s → work (next tick s) + 1 ≡ work s
-unfolding next
-tick-work s h = omega (arith, work-older (modify pending used s), work-used h (changed-pending used s))
+tick-work : (s : List Task) → 0 < work s → work (nextBy pending tick s) + 1 ≡ work s
+unfolding nextBy
+tick-work s h = omega (arith, work-older (modify pending used s), work-used h (changed-tick pending used s))
 
 module _ (p e w : ℕ → ℕ) (xs : List ℕ) (i : ℕ) where
   -- tasks with the numbers xs and the figures of p and e
   pub record Numbered (s : List Task) : Type 0 where
     pub numbers : numbersOf s ≡ xs
     pub asks : (t : ℕ) → sumOf (asked t) s ≡ sum (request p e t) xs
-    pub good : Good (λ k. 0) w e s
+    pub good : PlainGood w e s
 
-  numbered-next : (c : Call) (s : List Task) → Numbered s → Numbered (next c s)
+  numbered-next : (c : Call) (s : List Task) → Numbered s → Numbered (nextBy pending c s)
   unfolding bare withJob
   numbered-next c s h = record {
     numbers = numbers-next c s ∙ h .numbers;
     asks = λ t. figures-next (asked t) (λ u. refl) c s ∙ h .asks t;
-    good = good-kept (λ k. 0) w e c s (h .good);
+    good = plain-kept w e c s (h .good);
   }
 
   -- the state after b rounds: the tasks xs, and the task i below them
@@ -122,10 +122,10 @@ module _ (p e w : ℕ → ℕ) (xs : List ℕ) (i : ℕ) where
     pub waits : 0 < u .left
 
   waiting : (b : ℕ) (s : List Task) → Numbered s → Each (Timed b) s → Each (Waiting b) s
-  waiting b s h t = each-both s (λ u x y. record { period = y .0; timed = x; young = y .1 }) t (each-both {R = λ u. (0 < u .period) × (0 < u .left → u .age < u .period)} s (λ u x y. (x .period-min, y)) (h .good .form .sound) (nth-each _ s (λ k lt. young (λ k. 0) w e s k (h .good))))
+  waiting b s h t = each-both s (λ u x y. record { period = y .0; timed = x; young = y .1 }) t (each-both {R = λ u. (0 < u .period) × (0 < u .left → u .age < u .period)} s (λ u x y. (x .period-min, y)) (h .good .good .form .tasks .sound) (nth-each _ s (λ k lt. plain-young w e s k (h .good))))
 
   -- one round more
-  round-held : (b : ℕ) (s : List Task) (u : Task) → b + 1 < level p e xs i (b + 1) → Held b s u → (v : Task) × (run next (s ++ u ∷ []) (round xs) ≡ next tick (map released s) ++ v ∷ []) × Held (b + 1) (next tick (map released s)) v
+  round-held : (b : ℕ) (s : List Task) (u : Task) → b + 1 < level p e xs i (b + 1) → Held b s u → (v : Task) × (run (nextBy pending) (s ++ u ∷ []) (round xs) ≡ nextBy pending tick (map released s) ++ v ∷ []) × Held (b + 1) (nextBy pending tick (map released s)) v
   unfolding run level
   round-held b s u short h = (v, runs (u ∷ []) ∙ next-last tick r u, record { above = kept; timed = timed-next b s wait; total = omega (arith, whole, more); waits = ⊎-elim idle busy (zero-or-pos (work r)) })
     where
@@ -133,34 +133,34 @@ module _ (p e w : ℕ → ℕ) (xs : List ℕ) (i : ℕ) where
       r = map released s
 
       v : Task
-      v = nth (next tick (r ++ u ∷ [])) (length r)
+      v = nth (nextBy pending tick (r ++ u ∷ [])) (length r)
 
       wait : Each (Waiting b) s
       wait = waiting b s (h .above) (h .timed)
 
-      runs : (rest : List Task) → run next (s ++ rest) (round xs) ≡ next tick (r ++ rest)
-      runs rest = run-both answer next (releases xs) (tick ∷ []) (s ++ rest) ∙ ap (next tick) (ap (λ x. run next (s ++ rest) (releases x)) (sym (h .above .numbers)) ∙ release-all s rest (h .above .good .form .distinct))
+      runs : (rest : List Task) → run (nextBy pending) (s ++ rest) (round xs) ≡ nextBy pending tick (r ++ rest)
+      runs rest = run-both (answerBy pending) (nextBy pending) (releases xs) (tick ∷ []) (s ++ rest) ∙ ap (nextBy pending tick) (ap (λ x. run (nextBy pending) (s ++ rest) (releases x)) (sym (h .above .numbers)) ∙ release-all s rest (h .above .good .good .form .tasks .distinct))
 
-      kept : Numbered (next tick r)
-      kept = subst Numbered (ap (λ x. run next x (round xs)) (sym (append-nil s)) ∙ runs [] ∙ ap (next tick) (append-nil r)) (run-kept next Numbered numbered-next (round xs) s (h .above))
+      kept : Numbered (nextBy pending tick r)
+      kept = subst Numbered (ap (λ x. run (nextBy pending) x (round xs)) (sym (append-nil s)) ∙ runs [] ∙ ap (nextBy pending tick) (append-nil r)) (run-kept (nextBy pending) Numbered numbered-next (round xs) s (h .above))
 
       more : work r + u .left + b ≡ e i + sum (request p e (b + 1)) xs
       more = omega (arith, work-turned b s wait, h .above .asks b, h .above .asks (b + 1), h .total)
 
-      whole : work (next tick r) + v .left + 1 ≡ work r + u .left
-      whole = omega (arith, work-last (next tick r) v, ap work (next-last tick r u), tick-work (r ++ u ∷ []) (omega (arith, work-last r u, h .waits)), work-last r u)
+      whole : work (nextBy pending tick r) + v .left + 1 ≡ work r + u .left
+      whole = omega (arith, work-last (nextBy pending tick r) v, ap work (next-last tick r u), tick-work (r ++ u ∷ []) (omega (arith, work-last r u, h .waits)), work-last r u)
 
       idle : work r ≡ 0 → 0 < v .left
-      idle z = omega (arith, whole, more, work-tick r)
+      idle z = omega (arith, whole, more, work-tick pending r)
 
       busy : 0 < work r → 0 < v .left
       busy z = omega (arith, whole, tick-work r z, h .waits)
 
   -- n rounds more: the task below is still pending, and stands where it stood
-  pub rounds-held : (n b : ℕ) (s : List Task) (u : Task) → ((t : ℕ) → b < t → t ≤ b + n → t < level p e xs i t) → Held b s u → (s′ : List Task) × (v : Task) × (run next (s ++ u ∷ []) (rounds xs n) ≡ s′ ++ v ∷ []) × (length s′ ≡ length s) × (0 < v .left)
+  pub rounds-held : (n b : ℕ) (s : List Task) (u : Task) → ((t : ℕ) → b < t → t ≤ b + n → t < level p e xs i t) → Held b s u → (s′ : List Task) × (v : Task) × (run (nextBy pending) (s ++ u ∷ []) (rounds xs n) ≡ s′ ++ v ∷ []) × (length s′ ≡ length s) × (0 < v .left)
   unfolding run rounds
   rounds-held zero b s u short h = (s, u, refl, refl, h .waits)
   rounds-held (suc n) b s u short h =
       let one = round-held b s u (short (b + 1) (omega arith) (omega arith)) h in
-      let more = rounds-held n (b + 1) (next tick (map released s)) (one .0) (λ t x y. short t (omega arith) (omega arith)) (one .2) in
-      (more .0, more .1, run-both answer next (round xs) (rounds xs n) (s ++ u ∷ []) ∙ ap (λ x. run next x (rounds xs n)) (one .1) ∙ more .2, more .3 ∙ length-next tick (map released s) ∙ length-map s released, more .4)
+      let more = rounds-held n (b + 1) (nextBy pending tick (map released s)) (one .0) (λ t x y. short t (omega arith) (omega arith)) (one .2) in
+      (more .0, more .1, run-both (answerBy pending) (nextBy pending) (round xs) (rounds xs n) (s ++ u ∷ []) ∙ ap (λ x. run (nextBy pending) x (rounds xs n)) (one .1) ∙ more .2, more .3 ∙ length-next pending tick (map released s) ∙ length-map s released, more .4)

@@ -1,27 +1,23 @@
 // Reads one sheet from standard input and writes the sheet of the other version to standard output. What is wrong is said in one line on
 // standard error, and then no sheet is written.
 use input::Input;
-use listing::Listed;
 use mover::Moved;
+use sheet::Refusal;
 
-// The listing of a refused sheet is the line that says why.
-fn say_refused(sheet: &[u8]) {
-    let mut text = [0u8; 8192];
-    let listed = listing::list_sheet(sheet, &mut text);
-    match listed {
-        Listed::Written(length) => {
-            let end = length as usize;
-            io::write_all(libc::STDERR_FILENO, &text[..end]);
-        }
-        Listed::Tight => {}
-    }
+// The mover's refusal as one line.
+fn say_refused(word: Refusal, place: u16) {
+    io::write_all(libc::STDERR_FILENO, b"refused ");
+    io::print_decimal(libc::STDERR_FILENO, sheet::number(word) as u64);
+    io::write_all(libc::STDERR_FILENO, b" place ");
+    io::print_decimal(libc::STDERR_FILENO, place as u64);
+    io::write_all(libc::STDERR_FILENO, b"\n");
 }
 
 fn write_moved(sheet: &[u8]) {
     let mut out = [0u8; 712];
     let moved = mover::move_sheet(sheet, &mut out);
     match moved {
-        Moved::Refused { word: _, place: _ } => say_refused(sheet),
+        Moved::Refused { word, place } => say_refused(word, place),
         Moved::Written(length) => {
             let end = length as usize;
             if !io::write_all(libc::STDOUT_FILENO, &out[..end]) {

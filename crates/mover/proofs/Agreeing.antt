@@ -1,13 +1,14 @@
 -- A sheet and the sheet of the other version have the same figures by task number.
 -- Assumes nothing.
-use Prim.Native.Nat.{ℕ, zero, suc, _*_, _≤_, _<_}
+use Prim.Native.Nat.{ℕ, _*_, _<_}
 use mathlib.Core.Path.{_≡_, refl, sym, ap, ap₂, subst, subst₂, _∙_}
 use mathlib.Core.Bool.{Bool, true, false}
+use borrow.Author.Tests.{eqb-true}
 use mathlib.Core.List.{List}
 use native.Mathlib.Omega.{arith}
 use lib.ListN.{length, drop}
 use Rattle.sheet.specs.Records.{Figures, numberAt, countAt, taskCount, coreCount}
-use Rattle.sheet.specs.Views.{isGrouped, firstOf, coreByCounts, positionOf, positionOfNumber, positionedIn, renumbered, byPosition, figures}
+use Rattle.sheet.specs.Views.{version, isGrouped, isStroked, coreByCounts, positionOf, positionOfNumber, positionedIn, renumbered, byPosition, figures}
 use Rattle.fit.specs.Lists.{numbers, at, joined}
 use Rattle.fit.specs.Priority.{Higher, order}
 use Rattle.fit.specs.Cores.{orderOn}
@@ -17,6 +18,7 @@ use Rattle.views.proofs.Counts.{first-ext, core-ext}
 use Rattle.views.proofs.ByNumber.{position-below, number-position}
 use Rattle.views.proofs.Grouping.{spot-member, grouping-order}
 use Rattle.checker.specs.Accepted.{OrderKept}
+use Rattle.checker.proofs.Unstroked.{unstroked}
 use Rattle.mover.specs.Moved.{Layout, laidOut, grouping, layout1, layout2, version1, version2}
 use Rattle.mover.proofs.Fields.{laid-version, laid-tasks, laid-cores, laid-period, laid-budget, laid-byte4, laid-factor, laid-pivot, laid-count, laid-divisor}
 
@@ -26,15 +28,20 @@ module _ (s : List ℕ) where
   unfolding version1
   version1-ungrouped = rw (laid-version (layout1 s) s)
 
-  -- its records by position have the figures of the sheet by number
-  pub version1-agree : Agree (figures s) (byPosition (version1 s))
+  pub version1-unstroked : isStroked (version1 s) ≡ false
   unfolding version1
-  version1-agree = record {
+  version1-unstroked = rw (laid-version (layout1 s) s)
+
+  -- its records by position have the figures of the sheet by number
+  pub version1-agree : isStroked s ≡ false → Agree (figures s) (byPosition (version1 s))
+  unfolding version1
+  version1-agree u = record {
     tasks = laid-tasks (layout1 s) s;
     cores = laid-cores (layout1 s) s;
     period = λ i h. laid-period (layout1 s) s i h;
     budget = λ i h. laid-budget (layout1 s) s i h;
     core = λ i h. rw (laid-version (layout1 s) s) (laid-byte4 (layout1 s) s i h);
+    stroke = λ i h. unstroked (laidOut (layout1 s) s) (rw (laid-version (layout1 s) s)) i ∙ sym (unstroked s u _);
     factor = λ i h. laid-factor (layout1 s) s i h;
     pivot = λ k h. rw (laid-tasks (layout1 s) s) (laid-pivot (layout1 s) s k h);
     divisor = λ k h. rw (laid-tasks (layout1 s) s) (laid-divisor (layout1 s) s k h);
@@ -59,16 +66,25 @@ module _ (p num core count p′ num′ core′ count′ : ℕ → ℕ) (n c : �
       rise : (i j : ℕ) → i < n → j < n → Higher (p i) (num i) (p j) (num j) → Higher (p′ i) (num′ i) (p′ j) (num′ j)
       rise i j a b t = rw (ep i a, ep j b, en i a, en j b) t
 
-order-at : (a b : Bool) (n m c d : ℕ) (records : List ℕ) → a ≡ b → n ≡ m → c ≡ d → OrderKept a n c records → OrderKept b m d records
-order-at a b n m c d records x y z h = rw (← x, ← y, ← z) h
+order-at : (a b stroked : Bool) (n m c d : ℕ) (records : List ℕ) → a ≡ b → n ≡ m → c ≡ d → OrderKept a stroked n c records → OrderKept b stroked m d records
+order-at a b stroked n m c d records x y z h = rw (← x, ← y, ← z) h
 
-view-at : (a b : Bool) (n m c d : ℕ) (records : List ℕ) → a ≡ b → n ≡ m → c ≡ d → renumbered (positionOfNumber a n records) (positionedIn a n c records) ≡ renumbered (positionOfNumber b m records) (positionedIn b m d records)
-view-at a b n m c d records x y z = rw (x, y, z)
+view-at : (a b stroked : Bool) (n m c d : ℕ) (records : List ℕ) → a ≡ b → n ≡ m → c ≡ d → renumbered (positionOfNumber a n records) (positionedIn a stroked n c records) ≡ renumbered (positionOfNumber b m records) (positionedIn b stroked m d records)
+view-at a b stroked n m c d records x y z = rw (x, y, z)
 
 -- from version 1 to version 2
 pub version2-grouped : (s : List ℕ) → isGrouped (version2 s) ≡ true
 unfolding version2
 version2-grouped s = rw (laid-version (layout2 s) s)
+
+pub version2-unstroked : (s : List ℕ) → isStroked (version2 s) ≡ false
+unfolding version2
+version2-unstroked s = rw (laid-version (layout2 s) s)
+
+pub grouped-unstroked : (s : List ℕ) → isGrouped s ≡ true → isStroked s ≡ false
+grouped-unstroked s g =
+    let e : version s ≡ 2 = eqb-true (version s) 2 g in
+    rw e
 
 pub ungrouped-figures : (s : List ℕ) → isGrouped s ≡ false → figures s ≡ byPosition s
 ungrouped-figures s e = rw e
@@ -104,11 +120,11 @@ module _ (s : List ℕ) (ungrouped : isGrouped s ≡ false) (placed : (i : ℕ) 
 
   -- its figures by position, which are by the counts
   abbrev g : Figures
-  g = positionedIn true (taskCount s) (coreCount s) (drop 8 m)
+  g = positionedIn true (isStroked m) (taskCount s) (coreCount s) (drop 8 m)
 
   m-view : figures m ≡ renumbered (positionOf (numberAt (drop 8 m)) (taskCount s)) g
   unfolding m
-  m-view = view-at (isGrouped m) true _ _ _ _ (drop 8 m) m-grouped (laid-tasks layout s) (laid-cores layout s)
+  m-view = view-at (isGrouped m) true (isStroked m) _ _ _ _ (drop 8 m) m-grouped (laid-tasks layout s) (laid-cores layout s)
 
   m-core : (j : ℕ) → g .core j ≡ coreByCounts count (coreCount s) j
   unfolding m
@@ -122,14 +138,14 @@ module _ (s : List ℕ) (ungrouped : isGrouped s ≡ false) (placed : (i : ℕ) 
   unfolding m
   m-counts = (laid-tasks layout s, laid-cores layout s)
 
-  kept : OrderKept true (taskCount s) (coreCount s) (drop 8 m)
+  kept : OrderKept true (isStroked m) (taskCount s) (coreCount s) (drop 8 m)
   unfolding OrderKept
   kept e = m-order
 
-  m-kept : OrderKept (isGrouped m) (taskCount m) (coreCount m) (drop 8 m)
-  m-kept = order-at true (isGrouped m) _ _ _ _ (drop 8 m) (sym m-grouped) (sym (m-counts .0)) (sym (m-counts .1)) kept
+  m-kept : OrderKept (isGrouped m) (isStroked m) (taskCount m) (coreCount m) (drop 8 m)
+  m-kept = order-at true (isGrouped m) (isStroked m) _ _ _ _ (drop 8 m) (sym m-grouped) (sym (m-counts .0)) (sym (m-counts .1)) kept
 
-  pub version2-order : OrderKept (isGrouped (version2 s)) (taskCount (version2 s)) (coreCount (version2 s)) (drop 8 (version2 s))
+  pub version2-order : OrderKept (isGrouped (version2 s)) (isStroked (version2 s)) (taskCount (version2 s)) (coreCount (version2 s)) (drop 8 (version2 s))
   version2-order = rw version2-laid m-kept
 
   -- the number at a position, and the position of a number
@@ -142,21 +158,22 @@ module _ (s : List ℕ) (ungrouped : isGrouped s ≡ false) (placed : (i : ℕ) 
   abbrev position : ℕ → ℕ
   position = positionOf (numberAt (drop 8 m)) (taskCount s)
 
-  m-agree : Agree f (renumbered position g)
+  m-agree : isStroked s ≡ false → Agree f (renumbered position g)
   unfolding m
-  m-agree = record {
+  m-agree u = record {
     tasks = refl;
     cores = refl;
     period = λ i h. let (b, e) = m-position i h in laid-period layout s _ b ∙ ap (f .period) e;
     budget = λ i h. let (b, e) = m-position i h in laid-budget layout s _ b ∙ ap (f .budget) e;
     core = λ i h. let (b, e) = m-position i h in m-core _ ∙ sym (spot-member (f .period) (f .core) (taskCount s) (coreCount s) placed _ b .1) ∙ ap (f .core) e;
+    stroke = λ i h. unstroked (laidOut layout s) (rw (laid-version layout s)) _ ∙ sym (unstroked s u i);
     factor = λ i h. let (b, e) = m-position i h in laid-factor layout s _ b ∙ ap (f .factor) e;
     pivot = λ k h. laid-pivot layout s k h;
     divisor = λ k h. laid-divisor layout s k h;
   }
 
-  pub version2-agree : Agree (figures s) (figures (version2 s))
-  version2-agree = subst₂ Agree (sym (ungrouped-figures s ungrouped)) (sym (ap figures version2-laid ∙ m-view)) m-agree
+  pub version2-agree : isStroked s ≡ false → Agree (figures s) (figures (version2 s))
+  version2-agree u = subst₂ Agree (sym (ungrouped-figures s ungrouped)) (sym (ap figures version2-laid ∙ m-view)) (m-agree u)
 
   -- every position of the new sheet comes from one of the old
   pub grouping-below : (i : ℕ) → i < taskCount s → layout2 s .from i < taskCount s

@@ -81,10 +81,11 @@ module _ (s : List ℕ) (h : Framed s) where
   abbrev own : Layout
   own = record { version = version s; from = λ i. i; byte4 = numberAt (drop 8 s); count = countAt (drop (10 * taskCount s) (drop 8 s)) }
 
-  own-version : (version s ≡ 1) ⊎ (version s ≡ 2) → (version s ≡ getD s 3 0) × (_≡_ {A = ℕ} 0 (getD s 4 0))
+  own-version : (version s ≡ 1) ⊎ ((version s ≡ 2) ⊎ (version s ≡ 3)) → (version s ≡ getD s 3 0) × (_≡_ {A = ℕ} 0 (getD s 4 0))
   unfolding word
   own-version (inl e) = (omega arith, omega arith)
-  own-version (inr e) = (omega arith, omega arith)
+  own-version (inr (inl e)) = (omega arith, omega arith)
+  own-version (inr (inr e)) = (omega arith, omega arith)
 
   own-header : headerWith s (version s) ≡ take 8 s
   unfolding headerWith bytes

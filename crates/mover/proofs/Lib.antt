@@ -8,5 +8,6 @@ pub mod Accepting
 pub mod Laid
 pub mod Trips
 pub mod Moving
+pub mod Verdicts
 pub mod Answering
 pub mod Inside

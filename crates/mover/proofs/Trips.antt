@@ -9,7 +9,7 @@ use native.Mathlib.Omega.{arith}
 use borrow.Author.Tests.{eq-eqb, eqb-true}
 use lib.ListN.{length, getD, drop, length-map}
 use Rattle.sheet.specs.Records.{Figures, periodAt, numberAt, countAt, taskCount, coreCount}
-use Rattle.sheet.specs.Views.{version, isGrouped, firstOf, coreByCounts, positionOfNumber, positionedIn, renumbered, byPosition, figures}
+use Rattle.sheet.specs.Views.{version, isGrouped, isStroked, firstOf, coreByCounts, positionOfNumber, positionedIn, renumbered, byPosition, figures}
 use Rattle.fit.specs.Lists.{numbers, at, joined}
 use Rattle.fit.specs.Priority.{order}
 use Rattle.fit.specs.Cores.{orderOn}
@@ -22,7 +22,7 @@ use Rattle.checker.specs.Accepted.{OrderKept, Acceptable}
 use Rattle.checker.proofs.Views.{views-renamed}
 use Rattle.mover.specs.Moved.{laidOut, grouping, layout1, layout2, version1, version2}
 use Rattle.mover.proofs.Fields.{laid-tasks, laid-cores}
-use Rattle.mover.proofs.Agreeing.{version1-ungrouped, version1-agree, ungrouped-figures, version2-grouped, version2-order, version2-agree, version2-position, grouping-below}
+use Rattle.mover.proofs.Agreeing.{version1-ungrouped, version1-agree, grouped-unstroked, ungrouped-figures, version2-grouped, version2-order, version2-agree, version2-position, grouping-below}
 use Rattle.mover.proofs.Accepting.{core-part, inside, own, to-version1, version1-counts}
 use Rattle.mover.proofs.Laid.{laid-ext, laid-twice, laid-own}
 
@@ -52,42 +52,43 @@ map-number g a (suc n) zero h = ap g (omega arith)
 map-number g a (suc n) (suc j) h = map-number g (suc a) n j (omega arith) ∙ ap g (omega arith)
 
 -- the order of each core of a version 2 sheet by number
-module _ (n c : ℕ) (records : List ℕ) where
+module _ (stroked : Bool) (n c : ℕ) (records : List ℕ) where
   abbrev count : ℕ → ℕ
   count = countAt (drop (10 * n) records)
 
   abbrev viewed : Bool → Figures
-  viewed b = renumbered (positionOfNumber b n records) (positionedIn b n c records)
+  viewed b = renumbered (positionOfNumber b n records) (positionedIn b stroked n c records)
 
-  grouped-order : (b : Bool) → b ≡ true → OrderKept b n c records → (k : ℕ) → k < c → orderOn (viewed b) k ≡ map (numberAt records) (numbers (firstOf count k) (count k))
+  grouped-order : (b : Bool) → b ≡ true → OrderKept b stroked n c records → (k : ℕ) → k < c → orderOn (viewed b) k ≡ map (numberAt records) (numbers (firstOf count k) (count k))
   unfolding OrderKept orderOn
-  grouped-order true e o k h = views-renamed true n c records o .order k ∙ ap (map (numberAt records)) (core-positions _ (numberAt records) count n c (o refl) k h)
+  grouped-order true e o k h = views-renamed true stroked n c records o .order k ∙ ap (map (numberAt records)) (core-positions _ (numberAt records) count n c (o refl) k h)
   grouped-order false e o k h = absurd (true≢false (sym e))
 
-  grouped-all : (b : Bool) → b ≡ true → OrderKept b n c records → joined (orderOn (viewed b)) (numbers 0 c) ≡ map (numberAt records) (numbers 0 n)
+  grouped-all : (b : Bool) → b ≡ true → OrderKept b stroked n c records → joined (orderOn (viewed b)) (numbers 0 c) ≡ map (numberAt records) (numbers 0 n)
   unfolding OrderKept orderOn
   grouped-all true e o =
-      records-ext _ (λ k. map (numberAt records) (order (periodAt records) (coreByCounts count c) k n)) 0 c (λ k a h. views-renamed true n c records o .order k)
+      records-ext _ (λ k. map (numberAt records) (order (periodAt records) (coreByCounts count c) k n)) 0 c (λ k a h. views-renamed true stroked n c records o .order k)
       ∙ joined-map (numberAt records) (λ k. order (periodAt records) (coreByCounts count c) k n) (numbers 0 c)
       ∙ ap (map (numberAt records)) (joined-positions _ (numberAt records) count n c (o refl) c (omega arith) ∙ ap (numbers 0) (o refl .counts))
   grouped-all false e o = absurd (true≢false (sym e))
 
 -- from version 1 and back
-module _ (s : List ℕ) (ungrouped : isGrouped s ≡ false) (h : Acceptable s) where
+module _ (s : List ℕ) (ungrouped : isGrouped s ≡ false) (unstroked : isStroked s ≡ false) (h : Acceptable s) where
   placed : (i : ℕ) → i < taskCount s → byPosition s .core i < coreCount s
   placed = h .fitting .tasks .core
 
   own-core : (i : ℕ) → figures s .core i ≡ numberAt (drop 8 s) i
   own-core i = rw ungrouped
 
-  own-version : (version s ≡ 1) ⊎ (version s ≡ 2) → 1 ≡ version s
+  own-version : (version s ≡ 1) ⊎ ((version s ≡ 2) ⊎ (version s ≡ 3)) → 1 ≡ version s
   own-version (inl e) = sym e
-  own-version (inr e) = absurd (true≢false (sym (eq-eqb (version s) 2 e) ∙ ungrouped))
+  own-version (inr (inl e)) = absurd (true≢false (sym (eq-eqb (version s) 2 e) ∙ ungrouped))
+  own-version (inr (inr e)) = absurd (true≢false (sym (eq-eqb (version s) 3 e) ∙ unstroked))
 
   pub from-ungrouped : version1 (version2 s) ≡ s
   from-ungrouped =
       trip
-      ∙ laid-ext _ _ s (own-version (h .frame .version)) (λ i b. version2-position s ungrouped placed i b) (λ i b. version2-agree s ungrouped placed .core i b ∙ own-core i) (λ k b. sym (sym (core-part s k 2) ∙ h .spares .cores k b .0 ungrouped))
+      ∙ laid-ext _ _ s (own-version (h .frame .version)) (λ i b. version2-position s ungrouped placed i b) (λ i b. version2-agree s ungrouped placed unstroked .core i b ∙ own-core i) (λ k b. sym (sym (core-part s k 2) ∙ h .spares .cores k b .0 ungrouped))
       ∙ laid-own s (h .frame)
     where
       there : (i : ℕ) → i < taskCount s → layout1 (version2 s) .from i < taskCount s
@@ -102,7 +103,7 @@ module _ (s : List ℕ) (g : isGrouped s ≡ true) (h : Acceptable s) where
   new = to-version1 s g (h .order) h
 
   pub new-agree : Agree (figures s) (figures (version1 s))
-  new-agree = subst (Agree (figures s)) (sym (ungrouped-figures (version1 s) (version1-ungrouped s))) (version1-agree s)
+  new-agree = subst (Agree (figures s)) (sym (ungrouped-figures (version1 s) (version1-ungrouped s))) (version1-agree s (grouped-unstroked s g))
 
   new-order : (k : ℕ) → orderOn (figures (version1 s)) k ≡ orderOn (figures s) k
   new-order = agree-order (figures s) (figures (version1 s)) new-agree
@@ -112,7 +113,7 @@ module _ (s : List ℕ) (g : isGrouped s ≡ true) (h : Acceptable s) where
   new-grouping =
       ap (λ c. joined (orderOn (figures (version1 s))) (numbers 0 c)) (version1-counts s .1)
       ∙ records-ext _ (orderOn (figures s)) 0 (coreCount s) (λ k a b. new-order k)
-      ∙ grouped-all (taskCount s) (coreCount s) (drop 8 s) (isGrouped s) g (h .order)
+      ∙ grouped-all (isStroked s) (taskCount s) (coreCount s) (drop 8 s) (isGrouped s) g (h .order)
 
   new-from : (j : ℕ) → j < taskCount s → at (grouping (figures (version1 s))) j ≡ numberAt (drop 8 s) j
   new-from j b =
@@ -121,7 +122,7 @@ module _ (s : List ℕ) (g : isGrouped s ≡ true) (h : Acceptable s) where
 
   new-count : (k : ℕ) → k < coreCount s → length (orderOn (figures (version1 s)) k) ≡ countAt (drop (10 * taskCount s) (drop 8 s)) k
   new-count k b =
-      ap length (new-order k ∙ grouped-order (taskCount s) (coreCount s) (drop 8 s) (isGrouped s) g (h .order) k b)
+      ap length (new-order k ∙ grouped-order (isStroked s) (taskCount s) (coreCount s) (drop 8 s) (isGrouped s) g (h .order) k b)
       ∙ length-map (numbers _ _) (numberAt (drop 8 s)) ∙ numbers-length _ _
 
   pub from-grouped : version2 (version1 s) ≡ s

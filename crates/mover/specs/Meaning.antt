@@ -1,10 +1,10 @@
 -- What the sheet that is written is worth (docs/SHEET.md, section 12).
 use Prim.Native.Nat.{ℕ}
 use mathlib.Core.Path.{_≡_}
-use mathlib.Core.Bool.{not}
+use mathlib.Core.Bool.{false, not}
 use mathlib.Core.List.{List}
 use lib.ListN.{take}
-use Rattle.sheet.specs.Views.{isGrouped, figures}
+use Rattle.sheet.specs.Views.{isGrouped, isStroked, figures}
 use Rattle.views.specs.Renamed.{Agree}
 use Rattle.checker.specs.Verdict.{accepted, verdict}
 use Rattle.mover.specs.declared.Moved.{Moved}
@@ -16,6 +16,7 @@ use Rattle.mover.specs.Answers.{written, answerOf}
 pub record Moves (s t : List ℕ) (n c : ℕ) : Type 0 where
   pub accepts : verdict t ≡ accepted n c
   pub other : isGrouped t ≡ not (isGrouped s)
+  pub unstroked : isStroked t ≡ false
   pub same : Agree (figures s) (figures t)
   pub back : moved t ≡ s
 

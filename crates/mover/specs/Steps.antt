@@ -1,11 +1,15 @@
 -- What the code's own steps ask and give; no public contract speaks of it.
 use Prim.Native.Nat.{ℕ, _+_, _*_, _≤_, _<_}
 use mathlib.Core.Path.{_≡_}
+use mathlib.Core.Bool.{Bool, not, _&&_}
 use mathlib.Core.List.{List}
 use lib.ListN.{length, getD}
+use lib.Dec.{ltb}
 use Rattle.sheet.specs.Records.{taskCount, coreCount}
+use Rattle.sheet.specs.Views.{isStroked}
 use Rattle.fit.specs.Lists.{numbers, at, joined}
 use Rattle.fit.specs.Priority.{order}
+use Rattle.checker.specs.Tests.{isMarked}
 use Rattle.mover.specs.declared.Arrangement.{Arrangement}
 use Rattle.mover.specs.Moved.{taskWith, coreWith, Layout}
 
@@ -23,6 +27,10 @@ pub record Sized (s : List ℕ) (n c : ℕ) : Type 0 where
   pub few-tasks : n ≤ 64
   pub few-cores : c ≤ 8
   pub size : length s ≡ 8 + 10 * n + 8 * c
+
+-- a sheet has the length of a header and the mark, and is of version 3
+unfoldable pub unmovable : List ℕ → Bool
+unmovable s = not (ltb (length s) 8) && (isMarked s && isStroked s)
 
 -- what stands in a list at the i-th of some places
 unfoldable pub found : (list places : List ℕ) → ℕ → ℕ

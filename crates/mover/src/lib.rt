@@ -7,11 +7,10 @@ ghost use lib.ListN.{length};
 ghost use Rattle.sheet.specs.Views.{isGrouped};
 ghost use Rattle.fit.specs.Lists.{numbers, joined, over, at};
 ghost use Rattle.fit.specs.Answers.{Column};
-ghost use Rattle.checker.specs.Verdict.{verdict};
 ghost use Rattle.mover.specs.Moved.{bytes, headerWith, taskWith, coreWith, Layout, layout1, layout2, laidOut, moved};
-ghost use Rattle.mover.specs.Answers.{moveAnswer, moveOutput, answerOf};
+ghost use Rattle.mover.specs.Answers.{moveVerdict, moveAnswer, moveOutput, answerOf};
 ghost use Rattle.mover.specs.Meaning.{Moving};
-ghost use Rattle.mover.specs.Steps.{taskBytes, coreBytes, Sized, found, groupedBy, Arranged};
+ghost use Rattle.mover.specs.Steps.{taskBytes, coreBytes, Sized, unmovable, found, groupedBy, Arranged};
 use checker::Verdict;
 use sheet::Refusal;
 
@@ -200,12 +199,30 @@ fn write_other(out: &mut [u8], sheet: &[u8], n: u8, c: u8) -> u16
     write_sheet(out, sheet, n, c, arrangement)
 }
 
+// Whether a sheet has its mark and is of version 3, which has no other version.
+fn is_unmovable(sheet: &[u8]) -> bool
+    ensures { λ r. ⌜ r ≡ unmovable (now (sheet .entry)) ⌝ }
+{
+    let t = sheet::byte(sheet, 0);
+    let s = sheet::byte(sheet, 1);
+    let h = sheet::byte(sheet, 2);
+    let marked = (t == 0x54) & ((s == 0x53) & (h == 0x48));
+    let stroked = sheet::is_stroked(sheet);
+    !(sheet.len() < 8) & (marked & stroked)
+}
+
 // Writes a sheet of version 1 as one of version 2, and back, into a lent buffer of at least 712 bytes. The bytes past it stay as they were.
 pub fn move_sheet(sheet: &[u8], out: &mut [u8]) -> Moved
-    ensures { λ r. ⌜ answerOf r ≡ moveAnswer (verdict (now (sheet .entry))) (now (sheet .entry)) (length (now (out .entry))) ⌝ }
-    ensures { λ _. ⌜ now (out .exit) ≡ moveOutput (verdict (now (sheet .entry))) (now (sheet .entry)) (now (out .entry)) ⌝ }
+    ensures { λ r. ⌜ answerOf r ≡ moveAnswer (moveVerdict (now (sheet .entry))) (now (sheet .entry)) (length (now (out .entry))) ⌝ }
+    ensures { λ _. ⌜ now (out .exit) ≡ moveOutput (moveVerdict (now (sheet .entry))) (now (sheet .entry)) (now (out .entry)) ⌝ }
     ensures moves { λ r. ⌜ Moving (now (sheet .entry)) r (now (out .exit)) ⌝ }
 {
+    if is_unmovable(sheet) {
+        return Moved::Refused {
+            word: Refusal::Version,
+            place: 0,
+        };
+    }
     let verdict = checker::check(sheet);
     match verdict {
         Verdict::Refused { word, place } => Moved::Refused { word, place },

@@ -6,7 +6,7 @@ use mathlib.Core.Logic.{inl}
 use mathlib.Core.Bool.{true, false, false≢true}
 use mathlib.Core.Option.{Option, none, some}
 use mathlib.Core.List.{List, [], _∷_, _++_, map, append-nil}
-use native.Mathlib.Nat.{le-trans}
+use native.Mathlib.Nat.{le-refl, le-trans}
 use native.Mathlib.Omega.{arith}
 use borrow.Author.Tests.{ltb-false, eq-eqb, ne-eqb}
 use lib.ListN.{length, drop, getD, length-append, length-map}
@@ -26,9 +26,10 @@ use Rattle.figures.specs.Passing.{firstPassing}
 use Rattle.figures.proofs.Sound.{factors-length}
 use Rattle.figures.proofs.Passing.{Accepted, passing-sound, passing-accepted}
 use Rattle.fit.specs.Cores.{orderOn}
-use Rattle.checker.specs.Accepted.{LoadAtMostOne, Fitting, OrderKept, Acceptable}
+use Rattle.checker.specs.Accepted.{Fitting, OrderKept, Acceptable}
 use Rattle.checker.specs.Verdict.{verdict, accepted}
 use Rattle.checker.proofs.Acceptance.{accepted-exactly}
+use Rattle.checker.proofs.Unstroked.{unstroked-load}
 use Rattle.planner.specs.declared.Assignment.{Assignment}
 use Rattle.planner.specs.FirstFit.{coreSet, coreFigures, isSome}
 use Rattle.planner.specs.Sheet.{two, four, header, taskRecord, coreRecord, orZeros, figuresFor, factorFor, sheetOf}
@@ -151,7 +152,7 @@ module _ (p e : ℕ → ℕ) (n limit : ℕ) (a : Assignment) (small : limit ≤
   cores-size = records-length core 8 core-size 0 (a .cores)
 
   f : Figures
-  f = positionedIn false n (a .cores) (tasks ++ cores)
+  f = positionedIn false false n (a .cores) (tasks ++ cores)
 
   -- its fields, by task and by core
   f-period : (i : ℕ) → i < n → f .period i ≡ p i
@@ -204,13 +205,14 @@ module _ (p e : ℕ → ℕ) (n limit : ℕ) (a : Assignment) (small : limit ≤
 
   -- the figures fit
   fitting : Fitting f
-  unfolding f LoadAtMostOne overloaded stretched
+  unfolding f overloaded stretched
   fitting =
       record {
         tasks =
             record {
               period = λ i h. rw (f-period i h) (period i h);
               budget = λ i h. rw (f-period i h, f-budget i h) (budget i h);
+              stroke = λ i h. (le-refl 1, rw (f-budget i h) (budget i h .0));
               core = λ i h. rw (f-core i h) (placed i h);
             };
         cores =
@@ -224,7 +226,7 @@ module _ (p e : ℕ → ℕ) (n limit : ℕ) (a : Assignment) (small : limit ≤
         fits =
             record {
               simply-periodic = λ k h. rw (f-order k) (f-fits k h .chained);
-              load = λ k h. rw (f-order k, f-pivot k h, f-divisor k h) (ltb-false _ _ (f-fits k h .loaded));
+              load = λ k h. unstroked-load f k (λ i q. refl) (λ i q. rw (f-factor i q) (factor-range i q .0)) (rw (f-order k) (f-fits k h .chained)) .1 (rw (f-order k, f-pivot k h, f-divisor k h) (ltb-false _ _ (f-fits k h .loaded)));
             };
       }
     where
@@ -260,7 +262,7 @@ module _ (p e : ℕ → ℕ) (n limit : ℕ) (a : Assignment) (small : limit ≤
                   cores = le-trans (settled .few) small;
                   size = simp length-append (omega (arith, tasks-size, cores-size));
                 };
-            spares = record { header = refl; tasks = f-spare; cores = λ k h. (λ g. f-spares k h .0, f-spares k h .1) };
+            spares = record { header = refl; tasks = λ u. f-spare; cores = λ k h. (λ g. f-spares k h .0, f-spares k h .1) };
             order = λ g. absurd (false≢true g);
             fitting = fitting;
           }

@@ -15,11 +15,10 @@ use Rattle.fit.proofs.Finds.{place-passes, place-before}
 use Rattle.fit.proofs.Lists.{each-of, each-all}
 use Rattle.checker.specs.Verdict.{verdict}
 use Rattle.timing.specs.declared.Task.{Task}
-use Rattle.timing.specs.Calls.{Call, tick, accepted, served, idle, tickAnswer, ofFirst, answer, entry, log, run}
-use Rattle.timing.specs.Tasks.{pending}
+use Rattle.timing.specs.Calls.{Call, tick, accepted, served, idle, tickAnswer, ofFirst, answerBy, turn, answer, entry, log, run}
 use Rattle.timing.proofs.Runs.{log-append, run-both}
 use Rattle.dispatcher.specs.declared.Core.{Core}
-use Rattle.dispatcher.specs.State.{tasksOf, foreign}
+use Rattle.dispatcher.specs.State.{tasksOf, strokeIn, foreign}
 use Rattle.dispatcher.specs.Operations.{ask, step, answerByte}
 use Rattle.dispatcher.specs.Starts.{stateOf, sheetAnswer, sheetState}
 use Rattle.dispatcher.specs.OnTime.{KeptOn}
@@ -36,23 +35,23 @@ map-at f (x ∷ l) r zero d e h = refl
 map-at f (x ∷ l) r (suc k) d e h = map-at f l r k d e (omega arith)
 
 -- An answer byte tells the answer of tasks whose numbers are at most 63.
-tells : (s : List Task) → Each (λ t. t .number ≤ 63) s → readByte (answerByte (ofFirst pending tickAnswer idle s)) ≡ ofFirst pending tickAnswer idle s
+tells : (q : Task → Bool) (s : List Task) → Each (λ t. t .number ≤ 63) s → readByte (answerByte (ofFirst q tickAnswer idle s)) ≡ ofFirst q tickAnswer idle s
 unfolding ofFirst Each readByte answerByte
-tells [] h = refl
-tells (t ∷ s) h = go (pending t) (tells s (h .1))
+tells q [] h = refl
+tells q (t ∷ s) h = go (q t) (tells q s (h .1))
   where
     small : readByte (t .number) ≡ served (t .number)
     small = rw (ne-eqb (t .number) 255 (λ e. omega (arith, h .0, e)))
 
-    go : (b : Bool) → readByte (answerByte (ofFirst pending tickAnswer idle s)) ≡ ofFirst pending tickAnswer idle s → readByte (answerByte (cond b (tickAnswer t) (ofFirst pending tickAnswer idle s))) ≡ cond b (tickAnswer t) (ofFirst pending tickAnswer idle s)
+    go : (b : Bool) → readByte (answerByte (ofFirst q tickAnswer idle s)) ≡ ofFirst q tickAnswer idle s → readByte (answerByte (cond b (tickAnswer t) (ofFirst q tickAnswer idle s))) ≡ cond b (tickAnswer t) (ofFirst q tickAnswer idle s)
     go true r = small
     go false r = r
 
 pub byte-tells : (s : Core) → foreign s ≡ false → readByte (answerByte (ask tick s)) ≡ ask tick s
-unfolding answer
+unfolding answer answerBy
 byte-tells s e =
     let f = foreign-form s e in
-    rw (ask-form tick s f) (tells (tasksOf s) (each-of (tasksOf s) (λ t h. h .number-max) (f .form .sound)))
+    rw (ask-form tick s f) (tells (turn (strokeIn s)) (tasksOf s) (each-of (tasksOf s) (λ t h. h .number-max) (f .form .tasks .sound)))
 
 -- no state of a row that was ticked is foreign
 pub ticked-form : (row : List Core) (n k : ℕ) → rowOutcome row n ≡ ticked → k < length row → foreign (coreAt row k) ≡ false

@@ -18,6 +18,10 @@ coreAt tasks i = getD tasks (10 * i + 4) 0
 abbrev pub numberAt : List ℕ → ℕ → ℕ
 numberAt tasks j = getD tasks (10 * j + 4) 0
 
+-- byte 5 is spare, and in version 3 the stroke length
+abbrev pub strokeAt : List ℕ → ℕ → ℕ
+strokeAt tasks i = getD tasks (10 * i + 5) 0
+
 abbrev pub factorAt : List ℕ → ℕ → ℕ
 factorAt tasks i = long tasks (10 * i + 6)
 
@@ -32,22 +36,23 @@ divisorAt cores k = long cores (8 * k + 4)
 abbrev pub countAt : List ℕ → ℕ → ℕ
 countAt cores k = getD cores (8 * k + 2) 0
 
--- The figures of a sheet: the counts n and c; period p, budget e, core and factor M by task number or by position; pivot Q and divisor D
--- by core number.
+-- The figures of a sheet: the counts n and c; period p, budget e, core, stroke length q and factor M by task number or by position; pivot Q
+-- and divisor D by core number.
 pub record Figures : Type 0 where
   pub tasks : ℕ
   pub cores : ℕ
   pub period : ℕ → ℕ
   pub budget : ℕ → ℕ
   pub core : ℕ → ℕ
+  pub stroke : ℕ → ℕ
   pub factor : ℕ → ℕ
   pub pivot : ℕ → ℕ
   pub divisor : ℕ → ℕ
 
--- the figures of n task records on these cores and of c core records
-abbrev pub figuresWith : (ℕ → ℕ) → ℕ → ℕ → List ℕ → List ℕ → Figures
-figuresWith core n c tasks cores =
-    record { tasks = n; cores = c; period = periodAt tasks; budget = budgetAt tasks; core = core; factor = factorAt tasks; pivot = pivotAt cores; divisor = divisorAt cores }
+-- the figures of n task records on these cores and with these stroke lengths, and of c core records
+abbrev pub figuresWith : (core stroke : ℕ → ℕ) → ℕ → ℕ → List ℕ → List ℕ → Figures
+figuresWith core stroke n c tasks cores =
+    record { tasks = n; cores = c; period = periodAt tasks; budget = budgetAt tasks; core = core; stroke = stroke; factor = factorAt tasks; pivot = pivotAt cores; divisor = divisorAt cores }
 
 -- the counts: n is byte 5 of the header, c is byte 6
 abbrev pub taskCount : List ℕ → ℕ

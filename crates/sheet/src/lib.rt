@@ -7,7 +7,7 @@ ghost use Rattle.sheet.specs.Refusals.{numberOf};
 ghost use Rattle.sheet.specs.Ranges.{outOf};
 ghost use Rattle.sheet.specs.Numbers.{word, long};
 ghost use Rattle.sheet.specs.Records.{periodAt, budgetAt, coreAt, numberAt, factorAt, pivotAt, countAt, divisorAt};
-ghost use Rattle.sheet.specs.Views.{isGrouped};
+ghost use Rattle.sheet.specs.Views.{isGrouped, isStroked, strokeOfPosition};
 
 // The refusals by their words, in the order of their numbers (docs/SHEET.md, section 9).
 pub enum Refusal {
@@ -35,6 +35,7 @@ pub enum Refusal {
     Start,
     Order,
     Row,
+    Stroke,
 }
 
 // The first place at which something is found, if any.
@@ -77,6 +78,7 @@ pub fn number(word: Refusal) -> u8
         Refusal::Start => 22,
         Refusal::Order => 23,
         Refusal::Row => 24,
+        Refusal::Stroke => 25,
     }
 }
 
@@ -143,6 +145,13 @@ pub fn is_grouped(sheet: &[u8]) -> bool
     read_word(sheet, 3) == 2
 }
 
+// Whether a sheet is of version 3, whose tasks have stroke lengths.
+pub fn is_stroked(sheet: &[u8]) -> bool
+    ensures { λ r. ⌜ r ≡ isStroked (now (sheet .entry)) ⌝ }
+{
+    read_word(sheet, 3) == 3
+}
+
 // The place of record i among records of this size.
 pub fn offset(size: u8, i: u8) -> usize
     ensures { λ r. ⌜ (r ≡ size * i) × (r ≤ 65025) ⌝ }
@@ -175,6 +184,16 @@ pub fn old_number(tasks: &[u8], j: u8) -> u8
     ensures { λ r. ⌜ r ≡ numberAt (now (tasks .entry)) j ⌝ }
 {
     byte(tasks, 10 * (j as usize) + 4)
+}
+
+// The stroke length of position j: byte 5 in version 3, else 1.
+pub fn stroke(stroked: bool, tasks: &[u8], j: u8) -> u8
+    ensures { λ r. ⌜ r ≡ strokeOfPosition stroked (now (tasks .entry)) j ⌝ }
+{
+    if stroked {
+        return byte(tasks, 10 * (j as usize) + 5);
+    }
+    1
 }
 
 pub fn factor(tasks: &[u8], i: u8) -> u32

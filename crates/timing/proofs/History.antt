@@ -9,7 +9,7 @@ use Rattle.fit.specs.Lists.{Each}
 use Rattle.fit.proofs.Lists.{each-at}
 use Rattle.timing.specs.declared.Task.{Task}
 use Rattle.timing.specs.Tasks.{withJob}
-use Rattle.timing.specs.Calls.{Call, release, Answer, accepted, refused, releaseAnswer, answer, next, entry, log, run}
+use Rattle.timing.specs.Calls.{Call, release, Answer, accepted, refused, releaseAnswer, State, turn, answer, next, entry, log, run}
 use Rattle.timing.specs.Form.{Form, Fresh}
 use Rattle.timing.specs.OnTime.{count, refusedWith, isRefused}
 use Rattle.timing.specs.Serving.{nth, noTask, AgeCounts, ByHistory}
@@ -39,45 +39,45 @@ due-answer t j h n = go (release-view t) n
     go (is-late x y) k = absurd (omega arith)
     go (starts x y) k = refl
 
-module _ (s : List Task) (f : Form s) (h : Each Fresh s) (never : (cs : List Call) → count (isRefused 19) (log answer next s cs) ≡ 0) (cs : List Call) where
+module _ (s : State) (f : Form (s .tasks)) (h : Each Fresh (s .tasks)) (never : (cs : List Call) → count (isRefused 19) (log answer next s cs) ≡ 0) (cs : List Call) where
   -- no release is Late after the calls
   punctual : (j : ℕ) → count (isRefused 19) (entry (release j) (answer (release j) (run next s cs)) ∷ []) ≡ 0
   unfolding log
   punctual j = omega (arith, never (cs ++ release j ∷ []), ap (count (isRefused 19)) (log-append answer next cs (release j ∷ []) s), count-append (isRefused 19) (log answer next s cs) (entry (release j) (answer (release j) (run next s cs)) ∷ []))
 
   -- the task at a place, before and after the calls
-  at-place : (i : ℕ) → i < length s → ByHistory (nth s i .period) (nth s i .number) (log answer next s cs) (answer (release (nth s i .number)) (run next s cs))
-  unfolding bare withJob
+  at-place : (i : ℕ) → i < length (s .tasks) → ByHistory (nth (s .tasks) i .period) (nth (s .tasks) i .number) (log answer next s cs) (answer (release (nth (s .tasks) i .number)) (run next s cs))
+  unfolding bare withJob answer next
   at-place i lt = rw (← number, ← period) (record {
-    early = λ before xs e z m. own ∙ early-answer t (omega (arith, each-at _ noTask u i lt′ (ages .since before xs (t .number) e z) refl));
-    due = λ before xs e z m. own ∙ due-answer t (t .number) (omega (arith, each-at _ noTask u i lt′ (ages .since before xs (t .number) e z) refl)) (rw own at (punctual (t .number)));
-    first = λ z. own ∙ due-answer t (t .number) (omega (arith, each-at _ noTask u i lt′ (ages .unreleased (t .number) z) refl)) (rw own at (punctual (t .number)));
+    early = λ before xs e z m. own ∙ early-answer t (omega (arith, each-at _ noTask (u .tasks) i lt′ (ages .since before xs (t .number) e z) refl));
+    due = λ before xs e z m. own ∙ due-answer t (t .number) (omega (arith, each-at _ noTask (u .tasks) i lt′ (ages .since before xs (t .number) e z) refl)) (rw own at (punctual (t .number)));
+    first = λ z. own ∙ due-answer t (t .number) (omega (arith, each-at _ noTask (u .tasks) i lt′ (ages .unreleased (t .number) z) refl)) (rw own at (punctual (t .number)));
   })
     where
-      u : List Task
+      u : State
       u = run next s cs
 
       t : Task
-      t = nth u i
+      t = nth (u .tasks) i
 
-      same : bare t ≡ bare (nth s i)
-      same = run-kept next (λ x. bare (nth x i) ≡ bare (nth s i)) (λ c x e. bare-nth c x i ∙ e) cs s refl
+      same : bare t ≡ bare (nth (s .tasks) i)
+      same = run-kept next (λ x. bare (nth (x .tasks) i) ≡ bare (nth (s .tasks) i)) (λ c x e. bare-nth (turn (x .stroke)) c (x .tasks) i ∙ e) cs s refl
 
-      number : t .number ≡ nth s i .number
+      number : t .number ≡ nth (s .tasks) i .number
       number = ap (λ x. x .number) same
 
-      period : t .period ≡ nth s i .period
+      period : t .period ≡ nth (s .tasks) i .period
       period = ap (λ x. x .period) same
 
-      lt′ : i < length u
-      lt′ = run-kept next (λ x. i < length x) (λ c x k. omega (arith, length-next c x)) cs s lt
+      lt′ : i < length (u .tasks)
+      lt′ = run-kept next (λ x. i < length (x .tasks)) (λ c x k. omega (arith, length-next (turn (x .stroke)) c (x .tasks))) cs s lt
 
-      ages : AgeCounts (log answer next s cs) u
+      ages : AgeCounts (log answer next s cs) (u .tasks)
       ages = age-counts s f h cs
 
       own : answer (release (t .number)) u ≡ releaseAnswer t
-      own = each-at _ noTask u i lt′ (own-answer u (form-run cs s f .distinct))
+      own = each-at _ noTask (u .tasks) i lt′ (own-answer (turn (u .stroke)) (u .tasks) (form-run cs s f .distinct))
 
   -- after every list of calls from a fresh state in form, each task's release
-  pub by-history : Each (λ t. ByHistory (t .period) (t .number) (log answer next s cs) (answer (release (t .number)) (run next s cs))) s
-  by-history = nth-each _ s at-place
+  pub by-history : Each (λ t. ByHistory (t .period) (t .number) (log answer next s cs) (answer (release (t .number)) (run next s cs))) (s .tasks)
+  by-history = nth-each _ (s .tasks) at-place

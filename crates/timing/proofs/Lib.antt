@@ -5,6 +5,11 @@ pub mod Steps
 pub mod Form
 pub mod Demand
 pub mod Level
+pub mod Strokes
+pub mod Holding
+pub mod Aligned
+pub mod Unbroken
+pub mod Plain
 pub mod Machine
 pub mod OnTime
 pub mod Alone

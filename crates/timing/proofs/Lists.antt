@@ -5,7 +5,7 @@ use mathlib.Core.Path.{_≡_, refl, ap}
 use mathlib.Core.Logic.{_⊎_, inl, inr}
 use mathlib.Core.List.{List, [], _∷_, map}
 use native.Mathlib.Omega.{arith}
-use lib.ListN.{length, take}
+use lib.ListN.{length, take, drop}
 use Rattle.fit.specs.Lists.{Each}
 use Rattle.timing.specs.declared.Task.{Task}
 use Rattle.timing.specs.Serving.{nth}
@@ -65,3 +65,9 @@ pub take-map : (g : Task → Task) (k : ℕ) (s : List Task) → take k (map g s
 take-map g zero s = refl
 take-map g (suc k) [] = refl
 take-map g (suc k) (t ∷ s) = ap (λ l. g t ∷ l) (take-map g k s)
+
+-- and those from place k on the changed ones from there
+pub drop-map : (g : Task → Task) (k : ℕ) (s : List Task) → drop k (map g s) ≡ map g (drop k s)
+drop-map g zero s = refl
+drop-map g (suc k) [] = refl
+drop-map g (suc k) (t ∷ s) = drop-map g k s

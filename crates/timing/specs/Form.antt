@@ -8,7 +8,7 @@ use Rattle.fit.specs.Priority.{Higher}
 use Rattle.timing.specs.declared.Task.{Task}
 
 -- a task's own fields: its number at most 63, period 1 to 60,000, budget 1 to the period, age at most the period, ticks left at most the
--- budget
+-- budget, stroke length 1 to the budget
 pub record Sound (t : Task) : Type 0 where
   pub number-max : t .number ≤ 63
   pub period-min : 1 ≤ t .period
@@ -17,6 +17,8 @@ pub record Sound (t : Task) : Type 0 where
   pub budget-max : t .budget ≤ t .period
   pub age-max : t .age ≤ t .period
   pub left-max : t .left ≤ t .budget
+  pub stroke-min : 1 ≤ t .stroke
+  pub stroke-max : t .stroke ≤ t .budget
 
 -- two tasks have different numbers
 unfoldable pub Distinct : Task → Task → Type 0
@@ -26,7 +28,7 @@ Distinct t u = t .number ≡ u .number → ⊥
 unfoldable pub Above : Task → Task → Type 0
 Above t u = Higher (t .period) (t .number) (u .period) (u .number)
 
--- the form of a state: at most 64 tasks, each sound, no number twice, in priority order
+-- the form of a state's tasks: at most 64, each sound, no number twice, in priority order
 pub record Form (s : List Task) : Type 0 where
   pub count : length s ≤ 64
   pub sound : Each Sound s

@@ -3,3 +3,4 @@ pub mod Calls
 pub mod Form
 pub mod OnTime
 pub mod Serving
+pub mod Strokes

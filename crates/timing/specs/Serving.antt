@@ -15,7 +15,7 @@ use Rattle.timing.specs.OnTime.{count, isTick, isRun, isFinish, isAccept
 
 -- what stands at a place without a task: zeros
 abbrev pub noTask : Task
-noTask = record { period = 0; budget = 0; age = 0; left = 0; number = 0 }
+noTask = record { period = 0; budget = 0; age = 0; left = 0; number = 0; stroke = 0 }
 
 -- the task at place i, from 0 in priority order
 abbrev pub nth : List Task → ℕ → Task

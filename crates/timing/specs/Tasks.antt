@@ -18,7 +18,7 @@ named j t = eqb (t .number) j
 
 -- the task with age a and l ticks left
 unfoldable pub withJob : Task → ℕ → ℕ → Task
-withJob t a l = record { period = t .period; budget = t .budget; age = a; left = l; number = t .number }
+withJob t a l = record { period = t .period; budget = t .budget; age = a; left = l; number = t .number; stroke = t .stroke }
 
 -- a release: the age is 0 and the job has the whole budget left; a task that is early or pending stays as it is
 unfoldable pub released : Task → Task

@@ -2,14 +2,14 @@
 -- Assumes nothing.
 use Prim.Native.Nat.{ℕ, _*_, _/_, _<_}
 use mathlib.Core.Path.{_≡_, refl, sym, ap, _∙_}
-use mathlib.Core.List.{List, [], _∷_, map, map-id}
+use mathlib.Core.List.{List, [], _∷_, _++_, map, map-id, map-append}
 use Rattle.sheet.specs.Records.{Figures}
 use Rattle.sheet.specs.Views.{positionOf, renumbered}
 use Rattle.fit.specs.Lists.{sum, Each}
 use Rattle.fit.specs.Priority.{order}
-use Rattle.fit.specs.Fits.{Multiple, Multiples, lastFactor, load, exactLoad, fullLoad}
+use Rattle.fit.specs.Fits.{Multiple, Multiples, lastFactor, load, exactLoad, fullLoad, blocking, levelLoad, overloadedBelow, levelOverloaded}
 use Rattle.fit.specs.Cores.{orderOn}
-use Rattle.fit.proofs.Lists.{each-of}
+use Rattle.fit.proofs.Lists.{each-of, each-append}
 use Rattle.fit.proofs.Priority.{order-members, order-ext}
 use Rattle.fit.proofs.Selecting.{order-core-ext}
 use Rattle.views.specs.Order.{InOrder}
@@ -40,6 +40,32 @@ module _ (M N : ℕ → ℕ) (r : ℕ → ℕ) where
   sum-same [] h = refl
   sum-same (j ∷ l) h = rw (h .0, sum-same l (h .1))
 
+-- the load at each task, where D is the same
+module _ (e q M e′ q′ M′ r : ℕ → ℕ) (Q D : ℕ) where
+  unfoldable SameAt : ℕ → Type 0
+  SameAt j = (e′ (r j) ≡ e j) × (q′ (r j) ≡ q j) × (M′ (r j) ≡ M j)
+
+  blocking-same : (l : List ℕ) → Each SameAt l → blocking q′ (map r l) ≡ blocking q l
+  unfolding blocking Each SameAt
+  blocking-same [] h = refl
+  blocking-same (j ∷ l) h = rw (h .0 .1, blocking-same l (h .1))
+
+  load-same : (m : ℕ) (l : List ℕ) → Each SameAt l → load e′ M′ D m (map r l) ≡ load e M D m l
+  unfolding load SameAt
+  load-same m l h = sum-same (λ j. e j * D * (m / M j)) (λ i. e′ i * D * (m / M′ i)) r l (each-of l (λ j t. rw (t .0, t .2)) h)
+
+  below-same : (xs l : List ℕ) → Each SameAt xs → Each SameAt l → overloadedBelow e′ q′ M′ Q D (map r xs) (map r l) ≡ overloadedBelow e q M Q D xs l
+  unfolding overloadedBelow levelLoad Each SameAt
+  below-same xs [] hx h = refl
+  below-same xs (j ∷ l) hx h =
+      let with : Each SameAt (xs ++ j ∷ []) = each-append SameAt xs (j ∷ []) hx (h .0, tt) in
+      let cut : map r xs ++ r j ∷ [] ≡ map r (xs ++ j ∷ []) = sym (map-append r xs (j ∷ [])) in
+      rw (cut, h .0 .2, load-same (M j) (xs ++ j ∷ []) with, blocking-same l (h .1), below-same (xs ++ j ∷ []) l with (h .1))
+
+  levels-same : (l : List ℕ) → Each SameAt l → levelOverloaded e′ q′ M′ Q D (map r l) ≡ levelOverloaded e q M Q D l
+  unfolding levelOverloaded Each
+  levels-same l h = below-same [] l tt h
+
 module _ (f g : Figures) (r : ℕ → ℕ) (s : Renamed f g r) where
   members : (k : ℕ) → Each (λ j. (j < f .tasks) × (f .core j ≡ k)) (orderOn f k)
   unfolding orderOn
@@ -65,6 +91,12 @@ module _ (f g : Figures) (r : ℕ → ℕ) (s : Renamed f g r) where
       (sum-same (λ j. f .budget j * f .divisor k * (lastFactor (f .factor) 1 (orderOn f k) / f .factor j)) (λ i. g .budget i * f .divisor k * (lastFactor (f .factor) 1 (orderOn f k) / g .factor i)) r (orderOn f k)
       (each-of _ (λ j m. rw (s .budget j (m .0), s .factor j (m .0))) (members k)))
 
+  pub renamed-levels : (k : ℕ) → k < f .cores → levelOverloaded (g .budget) (g .stroke) (g .factor) (g .pivot k) (g .divisor k) (orderOn g k) ≡ levelOverloaded (f .budget) (f .stroke) (f .factor) (f .pivot k) (f .divisor k) (orderOn f k)
+  unfolding SameAt
+  renamed-levels k h =
+      rw (s .order k, s .pivot k h, s .divisor k h)
+      (levels-same (f .budget) (f .stroke) (f .factor) (g .budget) (g .stroke) (g .factor) r (f .pivot k) (f .divisor k) (orderOn f k) (each-of _ (λ j m. (s .budget j (m .0), s .stroke j (m .0), s .factor j (m .0))) (members k)))
+
 -- the view by number of tasks in order
 pub view-renamed : (f : Figures) (number core count : ℕ → ℕ) → f .core ≡ core → InOrder (f .period) number core count (f .tasks) (f .cores) → Renamed f (renumbered (positionOf number (f .tasks)) f) number
 view-renamed f number core count same h = record {
@@ -75,6 +107,7 @@ view-renamed f number core count same h = record {
   period = λ j b. ap (f .period) (own j b);
   budget = λ j b. ap (f .budget) (own j b);
   core = λ j b. ap (f .core) (own j b);
+  stroke = λ j b. ap (f .stroke) (own j b);
   factor = λ j b. ap (f .factor) (own j b);
   pivot = λ k b. refl;
   divisor = λ k b. refl;
@@ -100,6 +133,7 @@ agree-renamed f g s = record {
   period = s .period;
   budget = s .budget;
   core = s .core;
+  stroke = s .stroke;
   factor = s .factor;
   pivot = s .pivot;
   divisor = s .divisor;

@@ -13,6 +13,7 @@ pub record Agree (f g : Figures) : Type 0 where
   pub period : (i : ℕ) → i < f .tasks → g .period i ≡ f .period i
   pub budget : (i : ℕ) → i < f .tasks → g .budget i ≡ f .budget i
   pub core : (i : ℕ) → i < f .tasks → g .core i ≡ f .core i
+  pub stroke : (i : ℕ) → i < f .tasks → g .stroke i ≡ f .stroke i
   pub factor : (i : ℕ) → i < f .tasks → g .factor i ≡ f .factor i
   pub pivot : (k : ℕ) → k < f .cores → g .pivot k ≡ f .pivot k
   pub divisor : (k : ℕ) → k < f .cores → g .divisor k ≡ f .divisor k
@@ -26,6 +27,7 @@ pub record Renamed (f g : Figures) (r : ℕ → ℕ) : Type 0 where
   pub period : (j : ℕ) → j < f .tasks → g .period (r j) ≡ f .period j
   pub budget : (j : ℕ) → j < f .tasks → g .budget (r j) ≡ f .budget j
   pub core : (j : ℕ) → j < f .tasks → g .core (r j) ≡ f .core j
+  pub stroke : (j : ℕ) → j < f .tasks → g .stroke (r j) ≡ f .stroke j
   pub factor : (j : ℕ) → j < f .tasks → g .factor (r j) ≡ f .factor j
   pub pivot : (k : ℕ) → k < f .cores → g .pivot k ≡ f .pivot k
   pub divisor : (k : ℕ) → k < f .cores → g .divisor k ≡ f .divisor k

@@ -75,15 +75,21 @@ fn accepted(page: &mut Page, fields: &Fields) {
                 "Every job ends on time: within the ticks after its release that `within` shows below, whatever is released, finished \
                  and ticked on its core.",
             );
+            if fields.layout.has_strokes() {
+                page.paragraph(
+                    "A job that gets a tick keeps the core for as many ticks as `stroke` shows, or until it ends. Tasks above it wait for \
+                     that, and end on time with it.",
+                );
+            }
             page.section("load");
-            page.paragraph(load::TERMS);
+            page.paragraph(&load::terms(fields.layout));
         }
     }
     for core in 0..fields.layout.cores {
         page.section(&format!("core {core}"));
         match fields.load(core) {
-            Some(load) if load.sum() <= load.capacity => {
-                load::fitting(page, &load, fields.layout.grouped);
+            Some(load) if load.first_above().is_none() => {
+                load::fitting(page, &load, fields.layout);
             }
             _ => page.paragraph(OTHER_LIBRARY),
         }
@@ -99,7 +105,7 @@ fn refused(page: &mut Page, fields: &Fields, refusal: Refusal, more: bool) {
             let guess = guess::guess(fields, fault);
             why::why(page, fields, fault, &guess, more);
             page.section("what to do");
-            page.paragraph(&advice::advice(fault, &guess));
+            page.paragraph(&advice::advice(fields.layout, fault, &guess));
         }
         None => page.paragraph(OTHER_LIBRARY),
     }
@@ -115,7 +121,7 @@ fn refused(page: &mut Page, fields: &Fields, refusal: Refusal, more: bool) {
 mod tests {
     use super::*;
     use homvaits::{check, Place, Word, LISTING_MAX};
-    use samples::{changed, Rng, FULL, GROUPED};
+    use samples::{changed, Rng, FULL, GROUPED, STROKED};
 
     fn text(bytes: &[u8]) -> String {
         let (page, _) = report("sheet", bytes);
@@ -170,8 +176,8 @@ mod tests {
     fn task_lines(text: &str, version: u8) -> String {
         let line = |row: Vec<&str>| {
             let (task, core) = match version {
-                1 => (row[11], row[14]),
-                _ => (row[14], row[17]),
+                2 => (row[14], row[17]),
+                _ => (row[11], row[14]),
             };
             let (period, budget, factor, within) = (row[12], row[13], row[16], row[row.len() - 1]);
             let number: u8 = task.parse().unwrap();
@@ -242,13 +248,15 @@ mod tests {
             );
             assert!(text.contains("header") && !text.contains("what to do"));
         }
-        let mut page = Page::default();
-        accepted(&mut page, &Fields::new(&changed(&FULL, &[(20, 8)])));
-        let text = page.lines.join(" ");
-        assert!(
-            text.contains("The numbers of the sheet do not show this."),
-            "{text}"
-        );
+        for bytes in [changed(&FULL, &[(20, 8)]), changed(&STROKED, &[(23, 5)])] {
+            let mut page = Page::default();
+            accepted(&mut page, &Fields::new(&bytes));
+            let text = page.lines.join(" ");
+            assert!(
+                text.contains("The numbers of the sheet do not show this."),
+                "{text}"
+            );
+        }
     }
 
     /// What is said of bytes after verdicts that the library does not give.
@@ -257,6 +265,7 @@ mod tests {
         let words = [
             Word::Length,
             Word::Order,
+            Word::Stroke,
             Word::Stretch,
             Word::Chain,
             Word::Overload,
@@ -280,7 +289,10 @@ mod tests {
             let bytes = [rng.noise(), vec![255; 5000]].concat();
             let at = rng.range(0, 255) as u8;
             misjudged(&bytes, at);
-            misjudged(&changed(&bytes, &[(3, 2), (4, 0), (5, 255), (6, 255)]), at);
+            for version in [2, 3] {
+                let header = [(3, version), (4, 0), (5, 255), (6, 255)];
+                misjudged(&changed(&bytes, &header), at);
+            }
         }
     }
 
@@ -349,6 +361,30 @@ tasks
 cores
   byte  bytes                    core  pivot  spare  divisor
     28  09 00 00 00 02 00 00 00     0      9  00 00        2  <-- rule 14
+";
+
+    #[test]
+    fn a_stroke_that_is_too_long() {
+        let text = text(&changed(&STROKED, &[(23, 5)]));
+        assert!(text.contains(LONG_STROKE), "{text}");
+    }
+
+    const LONG_STROKE: &str = "
+  Q = 9, D = 2, L = 2
+  task  period  budget e  factor M  L / M  e x D x (L / M)  sum  stroke  B  B x D x (L / M)  together
+     0       5         1         1      2                4    4       1  4               16        20
+     1       9         7         2      1               14   18       5  0                0        18
+  sum 18, capacity Q x L = 9 x 2 = 18
+
+  The load is 1000 thousandths, but with task 0 the sum of 4 and the wait of 16 make 20, which
+  is 2 above the capacity. A stroke of a task below it may have 4 ticks at most.
+  At their real periods the tasks need 978 thousandths of the core's time, the sum of
+  budget / period, rounded up. That is not more than there is, and with shorter strokes they
+  fit.
+
+what to do
+  If the sheet is damaged, use another copy. If not, shorten the strokes, or put tasks with long
+  strokes and tasks with short periods on different cores.
 ";
 
     #[test]

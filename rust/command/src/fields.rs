@@ -2,28 +2,58 @@
 
 use std::fmt;
 
-use crate::wording::is_grouped;
-
 /// Bytes of the header, of a task record and of a core record.
 pub const HEADER_SIZE: usize = 8;
 pub const TASK_SIZE: usize = 10;
 pub const CORE_SIZE: usize = 8;
 
+/// A version of the sheet.
+#[derive(Clone, Copy, Debug, PartialEq, Eq)]
+pub enum Version {
+    /// 1: the task records stand by number, and name their cores.
+    ByNumber,
+    /// 2: they stand core by core, and have their old numbers with them.
+    ByCore,
+    /// 3: as version 1, with stroke lengths.
+    Strokes,
+}
+
+impl Version {
+    pub const ALL: [Version; 3] = [Version::ByNumber, Version::ByCore, Version::Strokes];
+
+    pub fn number(self) -> u8 {
+        match self {
+            Version::ByNumber => 1,
+            Version::ByCore => 2,
+            Version::Strokes => 3,
+        }
+    }
+
+    /// The version that the header of bytes names, if it is a known one.
+    pub fn of(bytes: &[u8]) -> Option<Version> {
+        let named = bytes.get(3..5)?;
+        let mut all = Version::ALL.into_iter();
+        all.find(|version| named == [version.number(), 0])
+    }
+}
+
 /// How many records there are, and which version they are of.
 #[derive(Clone, Copy, Debug, PartialEq, Eq)]
 pub struct Layout {
-    /// Version 2: the task records stand core by core, and have their old numbers with them.
-    pub grouped: bool,
+    pub version: Version,
     pub tasks: u8,
     pub cores: u8,
 }
 
 impl Layout {
-    pub fn version(self) -> u8 {
-        match self.grouped {
-            false => 1,
-            true => 2,
-        }
+    /// Whether the task records stand core by core.
+    pub fn is_grouped(self) -> bool {
+        self.version == Version::ByCore
+    }
+
+    /// Whether the task records have stroke lengths.
+    pub fn has_strokes(self) -> bool {
+        self.version == Version::Strokes
     }
 
     pub fn task_offset(self, position: u8) -> usize {
@@ -74,12 +104,14 @@ pub enum Part {
 pub struct Task {
     /// The place of the record, from 0.
     pub position: u8,
-    /// The position in version 1, the old number in version 2.
+    /// The old number in version 2, else the position.
     pub number: u8,
-    /// In version 1 the core that the record names, be it there or not. In version 2 the one that the counts give, if they reach so far.
+    /// The core that the record names, be it there or not. In version 2 the one that the counts give, if they reach so far.
     pub core: Option<u8>,
     pub period: u16,
     pub budget: u16,
+    /// The stroke length; 1 in versions 1 and 2.
+    pub stroke: u8,
     pub factor: u32,
 }
 
@@ -131,7 +163,8 @@ fn common_divisor(mut a: u64, mut b: u64) -> u64 {
     a
 }
 
-/// What the tasks of a core add to its load, in order of priority. A core fits if the sum is at most the capacity.
+/// What the tasks of a core add to its load, in order of priority. A core fits if for each task the sum up to it and its wait are together at
+/// most the capacity.
 #[derive(Clone, Debug, PartialEq, Eq)]
 pub struct Load {
     pub core: Core,
@@ -152,6 +185,17 @@ pub struct Share {
     pub work: u128,
     /// The work of this task and of those before it.
     pub sum: u128,
+    /// B: the longest stroke of the tasks behind it, less 1; 0 if there are none.
+    pub blocking: u8,
+    /// B x D x (L / M).
+    pub wait: u128,
+}
+
+impl Share {
+    /// What the capacity must have room for.
+    pub fn together(&self) -> u128 {
+        self.sum + self.wait
+    }
 }
 
 impl Load {
@@ -164,9 +208,10 @@ impl Load {
         (self.capacity != 0).then(|| (1000 * self.sum()).div_ceil(self.capacity))
     }
 
-    /// The first by priority with which the sum is above the capacity.
+    /// The first by priority with which the sum and the wait are above the capacity.
     pub fn first_above(&self) -> Option<&Share> {
-        self.shares.iter().find(|share| share.sum > self.capacity)
+        let mut shares = self.shares.iter();
+        shares.find(|share| share.together() > self.capacity)
     }
 }
 
@@ -178,11 +223,11 @@ pub struct Fields<'a> {
 }
 
 impl<'a> Fields<'a> {
-    /// By the header of the bytes: version 1 where it does not say 2, and no records where it does not say how many.
+    /// By the header of the bytes: version 1 where it names no known one, and no records where it does not say how many.
     pub fn new(bytes: &'a [u8]) -> Fields<'a> {
         let count = |at: usize| bytes.get(at).copied().unwrap_or(0);
         let layout = Layout {
-            grouped: is_grouped(bytes),
+            version: Version::of(bytes).unwrap_or(Version::ByNumber),
             tasks: count(5),
             cores: count(6),
         };
@@ -216,8 +261,8 @@ impl<'a> Fields<'a> {
     /// The task record at a position.
     pub fn task(&self, position: u8) -> Option<Task> {
         let at = self.layout.task_offset(position);
-        let named = self.byte(at + 4)?;
-        let (number, core) = match self.layout.grouped {
+        let (named, fifth) = (self.byte(at + 4)?, self.byte(at + 5)?);
+        let (number, core) = match self.layout.is_grouped() {
             false => (position, Some(named)),
             true => (named, self.core_by_count(position)),
         };
@@ -227,6 +272,7 @@ impl<'a> Fields<'a> {
             core,
             period: self.two(at)?,
             budget: self.two(at + 2)?,
+            stroke: if self.layout.has_strokes() { fifth } else { 1 },
             factor: self.four(at + 6)?,
         })
     }
@@ -249,7 +295,7 @@ impl<'a> Fields<'a> {
         (number < self.layout.cores).then_some(Core {
             number,
             pivot: self.two(at)?,
-            count: self.layout.grouped.then_some(count),
+            count: self.layout.is_grouped().then_some(count),
             divisor: self.four(at + 4)?,
         })
     }
@@ -295,19 +341,25 @@ impl<'a> Fields<'a> {
         let last = tasks.last()?.factor;
         let mut shares = Vec::new();
         let mut sum = 0;
-        for task in tasks {
+        for (place, &task) in tasks.iter().enumerate() {
             let times = last.checked_div(task.factor)?;
             if last % task.factor != 0 {
                 return None;
             }
-            // at most 80 bits, and there are at most 255 of them
-            let work = u128::from(task.budget) * u128::from(core.divisor) * u128::from(times);
+            let behind = tasks[place + 1..].iter();
+            let blocking = behind.map(|task| task.stroke.saturating_sub(1)).max();
+            let blocking = blocking.unwrap_or(0);
+            // at most 80 bits each, and there are at most 255 of them
+            let ticks = u128::from(core.divisor) * u128::from(times);
+            let work = u128::from(task.budget) * ticks;
             sum += work;
             shares.push(Share {
                 task,
                 times,
                 work,
                 sum,
+                blocking,
+                wait: u128::from(blocking) * ticks,
             });
         }
         Some(Load {
@@ -322,16 +374,17 @@ impl<'a> Fields<'a> {
 #[cfg(test)]
 mod tests {
     use super::*;
-    use crate::explain::samples::{Rng, FULL, GROUPED};
+    use crate::explain::samples::{Rng, FULL, GROUPED, STROKED};
 
     #[test]
-    fn the_fields_of_both_versions() {
+    fn the_fields_of_every_version() {
         let fields = Fields::new(&FULL);
         assert_eq!((fields.mark(), fields.version()), (Some(*b"TSH"), Some(1)));
         assert_eq!(fields.layout.length(), 36);
         let task = fields.task(1).unwrap();
         assert_eq!((task.number, task.core), (1, Some(0)));
         assert_eq!((task.period, task.budget, task.factor), (9, 7, 2));
+        assert_eq!(task.stroke, 1);
         assert_eq!((fields.task(2), fields.core(1)), (None, None));
         let core = fields.core(0).unwrap();
         assert_eq!((core.pivot, core.count, core.divisor), (9, None, 2));
@@ -345,6 +398,18 @@ mod tests {
         assert!(fields.cores().map(|core| core.count).eq([Some(3), Some(2)]));
         assert_eq!(Fields::new(&GROUPED[..60]).tasks().count(), 5);
         assert_eq!(Fields::new(&GROUPED[..57]).tasks().count(), 4);
+        assert!(fields.tasks().all(|task| task.stroke == 1));
+
+        let fields = Fields::new(&STROKED);
+        let tasks = fields
+            .tasks()
+            .map(|task| (task.number, task.core, task.stroke));
+        assert!(tasks.eq([(0, Some(0), 1), (1, Some(0), 4)]));
+        assert_eq!(fields.core(0).unwrap().count, None);
+        let named = |version: [u8; 2]| Version::of(&[b'T', b'S', b'H', version[0], version[1]]);
+        let versions = [[1, 0], [2, 0], [3, 0], [0, 0], [4, 0], [3, 1]].map(named);
+        assert_eq!(versions[..3], Version::ALL.map(Some));
+        assert_eq!(versions[3..], [None; 3]);
     }
 
     #[test]
@@ -365,6 +430,23 @@ mod tests {
         let order = |core| fields.by_priority(core).into_iter().map(|task| task.number);
         assert!(order(0).eq([3, 1, 4]) && order(1).eq([2, 0]));
         assert_eq!(fields.load(0).unwrap().thousandths(), Some(625));
+    }
+
+    #[test]
+    fn strokes_make_those_above_wait() {
+        let load = Fields::new(&STROKED).load(0).unwrap();
+        assert_eq!(
+            (load.sum(), load.capacity, load.thousandths()),
+            (18, 18, Some(1000))
+        );
+        let waits = load.shares.iter().map(|share| (share.blocking, share.wait));
+        assert!(waits.eq([(3, 12), (0, 0)]));
+        assert_eq!(load.first_above(), None);
+        let mut longer = STROKED;
+        longer[23] = 5;
+        let load = Fields::new(&longer).load(0).unwrap();
+        let first = load.first_above().unwrap();
+        assert_eq!((first.task.number, first.together()), (0, 20));
     }
 
     #[test]

@@ -102,7 +102,8 @@ usage: homvaits move SHEET [-o MOVED]
 
 Writes a sheet of version 1 as one of version 2, which stands core by core, and
 one of version 2 as one of version 1. Both say the same, and moving twice gives
-the same bytes.
+the same bytes. A sheet of version 3 is refused with 3: version 2 has no place
+for strokes.
 
   -o MOVED  writes it there; it may be SHEET itself. Standard output if left
             out, unless that is a terminal
@@ -133,13 +134,13 @@ Every log goes through the on-time rule.
   -o LOG         writes the log there, and prints the table alone
 
 A log is text. Its first line is `homvaits log 1`. For each core there follow a
-line `core 0` (or `bench`), its tasks (`task 0 period 5 budget 1 within 4`), and
-a call a line: `release 0`, `finish 0`, `tick`, each with its answer behind it
-(`accepted`, `refused 18 place 0`; the task's number or `idle` for a tick). #
-begins a comment. --calls takes calls without answers too, `ticks 5` for five
-ticks, and, where one core is run, calls alone; 5000000 of them at most.
-Where a line has another answer than the library gives, that is said, and the
-status is 1.
+line `core 0` (or `bench`), its tasks (`task 0 period 5 budget 1 within 4`, with
+`stroke 2` behind it where strokes have more than one tick), and a call a line:
+`release 0`, `finish 0`, `tick`, each with its answer behind it (`accepted`,
+`refused 18 place 0`; the task's number or `idle` for a tick). # begins a
+comment. --calls takes calls without answers too, `ticks 5` for five ticks, and,
+where one core is run, calls alone; 5000000 of them at most. Where a line has
+another answer than the library gives, that is said, and the status is 1.
 
 Status 1 if a sheet or list is refused, a job is late or an answer is another.
 ";

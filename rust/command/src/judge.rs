@@ -171,6 +171,7 @@ mod tests {
             period,
             budget,
             within,
+            stroke: 1,
             name: None,
         };
         let entry = |&(call, answer): &(Call, Answer)| Entry { call, answer };

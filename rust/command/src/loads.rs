@@ -55,7 +55,7 @@ mod tests {
     }
 
     #[test]
-    fn they_are_those_of_the_wrapper_in_both_versions() {
+    fn they_are_those_of_the_wrapper_in_every_version() {
         let mut numbers = Rng(1);
         let (mut planned, mut full) = (0, 0);
         for _ in 0..3000 {
@@ -67,6 +67,14 @@ mod tests {
             let moved = move_sheet(sheet.as_bytes()).unwrap();
             assert_eq!(loads(sheet.as_bytes()), figures(&sheet));
             assert_eq!(loads(moved.as_bytes()), figures(&sheet));
+            // strokes are not in a load
+            let mut strokes = sheet.as_bytes().to_vec();
+            strokes[3] = 3;
+            for task in sheet.tasks() {
+                let longest = u64::from(task.budget.min(255));
+                strokes[8 + 10 * usize::from(task.number) + 5] = 1 + numbers.below(longest) as u8;
+            }
+            assert_eq!(loads(&strokes), figures(&sheet));
             planned += 1;
             full += usize::from(figures(&sheet).len() == 8);
         }

@@ -15,6 +15,8 @@ pub struct Task {
     pub budget: u16,
     /// Ticks after its release by which a job must have ended: w of the sheet, the period on the bench.
     pub within: u16,
+    /// Its stroke length. A line says it where it is above 1.
+    pub stroke: u8,
     pub name: Option<String>,
 }
 
@@ -97,6 +99,9 @@ impl Log {
                 text,
                 "task {number} period {period} budget {budget} within {within}"
             );
+            if task.stroke > 1 {
+                let _ = write!(text, " stroke {}", task.stroke);
+            }
             let _ = match &task.name {
                 Some(name) => writeln!(text, " name {name}"),
                 None => writeln!(text),

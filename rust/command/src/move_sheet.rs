@@ -2,8 +2,11 @@
 
 use std::ffi::OsStr;
 
+use homvaits::Word;
+
 use crate::args::{valued, Args, OptionSpec};
 use crate::failure::{Failure, Outcome, WELL};
+use crate::fields::Version;
 use crate::files::{read_front, shown};
 use crate::list::FRONT;
 use crate::out::Out;
@@ -18,11 +21,13 @@ pub fn move_sheet(args: &Args, out: &mut Out) -> Outcome {
     not_to_terminal(to)?;
     let bytes = read_front(path, FRONT)?;
     let moved = homvaits::move_sheet(&bytes).map_err(|refusal| {
-        Failure::refused(format!(
-            "{}: {}; `homvaits explain` tells more",
-            shown(path),
-            wording::refused(refusal, &bytes)
-        ))
+        let why = wording::refused(refusal, &bytes);
+        // a good sheet of version 3 is refused too, and there is nothing to explain
+        let hint = match (refusal.word, Version::of(&bytes)) {
+            (Word::Version, Some(Version::Strokes)) => "",
+            _ => "; `homvaits explain` tells more",
+        };
+        Failure::refused(format!("{}: {why}{hint}", shown(path)))
     })?;
     match to == "-" {
         true => out.write(moved.as_bytes()),

@@ -1,23 +1,34 @@
 //! Refusals and counts in words.
 
-use homvaits::{Place, Refusal};
+use homvaits::{Place, Refusal, Word};
 
-use crate::fields::Fields;
-
-/// Whether bytes say that they are a sheet of version 2, in whose refusals tasks go by position.
-pub fn is_grouped(bytes: &[u8]) -> bool {
-    bytes.get(3..5) == Some(&[2, 0])
-}
+use crate::fields::{Fields, Version};
 
 /// Where a refused sheet breaks its rule: `task 3`, in version 2 `position 3`, `core 0`, `byte 13`, or nothing.
 pub fn place(refusal: Refusal, bytes: &[u8]) -> Option<String> {
     match refusal.place {
         Place::Whole => None,
-        Place::Task(task) if is_grouped(bytes) => Some(format!("position {task}")),
+        Place::Task(task) if Version::of(bytes) == Some(Version::ByCore) => {
+            Some(format!("position {task}"))
+        }
         Place::Task(task) => Some(format!("task {task}")),
         Place::Core(core) => Some(format!("core {core}")),
         Place::Offset(offset) => Some(format!("byte {offset}")),
         other => Some(format!("place {}", other.number())),
+    }
+}
+
+/// What a refusal says of bytes, such as `the core has more work than time`.
+pub fn text(refusal: Refusal, bytes: &[u8]) -> &'static str {
+    match (refusal.word, Version::of(bytes)) {
+        (Word::Version, Some(Version::Strokes)) => {
+            "a sheet of version 3 is not moved, since version 2 has no place for strokes"
+        }
+        (Word::Version, _) => "the version is not 1, 2 or 3",
+        (Word::Overload, Some(Version::Strokes)) => {
+            "the core has more work than time, or its strokes are too long"
+        }
+        (word, _) => word.text(),
     }
 }
 
@@ -32,7 +43,7 @@ pub fn refused(refusal: Refusal, bytes: &[u8]) -> String {
         "refused {} ({}){place}: {}",
         word.number(),
         word.name(),
-        word.text()
+        text(refusal, bytes)
     )
 }
 

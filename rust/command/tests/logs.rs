@@ -4,7 +4,7 @@ mod common;
 
 use common::report::{holds, reads_back};
 use common::running::{read_log, Answer, Call};
-use common::sheets::{full_core, two_cores};
+use common::sheets::{full_core, strokes_of, two_cores};
 use common::{Folder, Ran, Rng};
 
 #[test]
@@ -33,7 +33,7 @@ fn lines_that_are_no_calls() {
 }
 
 /// Lines that are no lines of a log, each with a word that must be told.
-const WRONG: [(&str, &str); 50] = [
+const WRONG: [(&str, &str); 55] = [
     ("relase 0", "relase"),
     ("Release 0", "Release"),
     ("release", "release"),
@@ -83,6 +83,11 @@ const WRONG: [(&str, &str); 50] = [
     ("task 0 period 6 budget 1 within 4", "task 0"),
     ("task 0 period 5 budget 1 within 5", "task 0"),
     ("task 7 period 5 budget 1 within 4", "task 7"),
+    ("task 0 period 5 budget 1 within 4 stroke", "task"),
+    ("task 0 period 5 budget 1 within 4 stroke 0", "0"),
+    ("task 0 period 5 budget 1 within 4 stroke 2", "2"),
+    ("task 1 period 9 budget 7 within 9 stroke x", "x"),
+    ("task 1 period 9 budget 7 within 9 stroke 4", "task 1"),
     ("homvaits log 2", "version"),
 ];
 
@@ -288,6 +293,33 @@ fn names_are_read_back() {
     folder.write("a.log", &ran.out);
     let again = folder.run(&["run", "a.tsh", "--calls", "a.log"]).ends(0);
     assert_eq!(again.out, ran.out, "the log has the names");
+}
+
+/// A log of a sheet with strokes is no log of the sheet without them, nor the other way round.
+#[test]
+fn logs_of_other_strokes() {
+    let folder = Folder::new();
+    folder.write("1.tsh", full_core().by_number());
+    folder.write("4.tsh", strokes_of(4).in_strokes());
+    folder.write("3.tsh", strokes_of(3).in_strokes());
+    let names = ["1.tsh", "3.tsh", "4.tsh"];
+    for of in names {
+        let log = folder.run(&["run", of]).ends(0).out;
+        for name in names {
+            let ran = folder.run_on(&["run", name, "--calls", "-"], &log);
+            match name == of {
+                true => assert_eq!(ran.ends(0).out, log),
+                false => drop(ran.ends(2).tells("task 1").tells("another sheet")),
+            }
+        }
+    }
+    // names behind strokes
+    folder.write("a.jobs", "5 1 key\n9 7 stroke 2\n");
+    let words = ["run", "4.tsh", "--names", "a.jobs"];
+    let ran = folder.run(&words).ends(0);
+    let ran = ran.prints("within 9 stroke 4 name stroke 2\n");
+    let again = folder.run_on(&["run", "4.tsh", "--calls", "-"], &ran.out);
+    assert_eq!(again.ends(0).out, ran.out);
 }
 
 #[test]

@@ -4,7 +4,7 @@ mod common;
 
 use common::drawn::{draws, expected, letters};
 use common::running::{judge, read_log, CoreLog};
-use common::sheets::{full_core, two_cores};
+use common::sheets::{full_core, strokes_of, two_cores, Sheet};
 use common::svg::{read, shown};
 use common::{example, stored, text_of, Folder, Rng};
 use std::path::Path;
@@ -59,6 +59,9 @@ fn every_tick_of_many_runs() {
         let (seed, ticks) = (round.to_string(), rng.range(1, 600).to_string());
         if planned == 0 {
             pictured(&folder, &["a.tsh", "--random", &seed, "--ticks", &ticks]);
+            let made = Sheet::read(&folder.read("a.tsh"));
+            folder.write("b.tsh", rng.stroked(&made).in_strokes());
+            pictured(&folder, &["b.tsh", "--random", &seed, "--ticks", &ticks]);
         }
         let logs = pictured(&folder, &["a.jobs", "--bench", "--ticks", &ticks]);
         let late: u64 = judge(&logs[0]).values().map(|tally| tally.late).sum();
@@ -322,6 +325,9 @@ fn stored_pictures() {
     folder.write("full.jobs", "5 1 key\n9 7 receiver\n");
     folder.write("two.tsh", two_cores().by_core());
     folder.write("late.jobs", "5 2 first\n7 4 second\n34 1\n");
+    folder.write("strokes.tsh", strokes_of(4).in_strokes());
+    let calls = "release 1\ntick\nrelease 0\nticks 5\nrelease 0\nticks 4\nrelease 1\nticks 2\nfinish 1\nrelease 0\nticks 3\n";
+    folder.write("stroke-calls", calls);
     let calls = "core 0\nrelease 3\nrelease 1\nrelease 4\nrelease 3\nticks 2\nfinish 1\nfinish 1\n\
         release 9\nticks 5\nrelease 1\nticks 4\ncore 1\nticks 2\nrelease 0\nticks 40\n";
     folder.write("calls", calls);
@@ -329,11 +335,22 @@ fn stored_pictures() {
     folder
         .run(&["plan", ten.to_str().expect("text"), "-o", "ten.tsh"])
         .ends(0);
-    let cases: [(&str, &[&str], i32); 6] = [
+    let cases: [(&str, &[&str], i32); 7] = [
         ("full-core", &["full.tsh", "--names", "full.jobs"], 0),
         ("random", &["two.tsh", "--random", "7"], 0),
         ("late", &["late.jobs", "--bench", "--ticks", "40"], 1),
         ("calls", &["two.tsh", "--calls", "calls"], 0),
+        (
+            "strokes",
+            &[
+                "strokes.tsh",
+                "--names",
+                "full.jobs",
+                "--calls",
+                "stroke-calls",
+            ],
+            0,
+        ),
         ("bands", &["ten.tsh", "--core", "1", "--ticks", "400"], 0),
         (
             "ten-tasks",

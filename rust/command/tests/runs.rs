@@ -3,11 +3,11 @@
 mod common;
 
 use common::report::{holds, reads_back, table};
-use common::running::{read_log, Answer, Call, CoreLog};
-use common::sheets::{full_core, sheet, task, two_cores, Sheet};
+use common::running::{read_log, unbroken, Answer, Call, CoreLog};
+use common::sheets::{full_core, sheet, strokes_of, task, two_cores, Sheet};
 use common::{example, text_of, Folder, Ran, Rng};
 
-/// Planned sheets, sheets made by hand, and both versions of each.
+/// Planned sheets and sheets made by hand, in one of the versions each.
 fn many_sheets(folder: &Folder, seed: u64, count: usize) -> Vec<(Sheet, Vec<u8>)> {
     let mut rng = Rng(seed);
     let mut sheets = Vec::new();
@@ -22,7 +22,13 @@ fn many_sheets(folder: &Folder, seed: u64, count: usize) -> Vec<(Sheet, Vec<u8>)
         } else {
             rng.sheet()
         };
-        let bytes = made.write(1 + rng.range(0, 1) as u8);
+        let version = rng.range(1, 3) as u8;
+        let fits = (0..made.cores.len() as u8).all(|core| made.fits(core));
+        let made = match version {
+            3 if fits => rng.stroked(&made),
+            _ => made,
+        };
+        let bytes = made.write(version);
         if folder.run_on(&["list", "-"], &bytes).status == 0 {
             sheets.push((made, bytes));
         }
@@ -33,7 +39,7 @@ fn many_sheets(folder: &Folder, seed: u64, count: usize) -> Vec<(Sheet, Vec<u8>)
 #[test]
 fn random_runs_of_many_sheets() {
     let folder = Folder::new();
-    let (mut finished, mut refused, mut idle) = (0, [0; 24], 0);
+    let (mut finished, mut refused, mut idle, mut waited) = (0, [0; 24], 0, 0);
     for (seed, (made, bytes)) in many_sheets(&folder, 1, 80).into_iter().enumerate() {
         folder.write("a.tsh", bytes);
         let seed = (seed as u64)
@@ -45,6 +51,7 @@ fn random_runs_of_many_sheets() {
         assert_eq!(cores.len(), made.cores.len());
         for (number, log) in cores.iter().enumerate() {
             head_of(log, &made, number as u8);
+            waited += unbroken(log);
             for (call, answer) in &log.calls {
                 match (call, answer) {
                     (Call::Finish(_), Answer::Accepted) => finished += 1,
@@ -58,6 +65,10 @@ fn random_runs_of_many_sheets() {
         assert_eq!(folder.run(&words).out, ran.out, "the seed decides");
     }
     assert!(finished > 0 && idle > 0, "{finished} {idle}");
+    assert!(
+        waited > 100,
+        "{waited} ticks of strokes while a task above waits"
+    );
     assert!(
         [17, 18, 20].iter().all(|&word| refused[word] > 0),
         "{refused:?}"
@@ -76,6 +87,7 @@ fn head_of(log: &CoreLog, made: &Sheet, core: u8) {
         assert_eq!(task.period, u64::from(record.period));
         assert_eq!(task.budget, u64::from(record.budget));
         assert_eq!(task.within, made.within(number));
+        assert_eq!(task.stroke, u64::from(record.stroke));
     }
 }
 
@@ -197,6 +209,46 @@ fn the_run_of_the_specification() {
     assert_eq!(log.calls[6], early, "{ran}");
     let rows = table(&ran.out);
     assert_eq!(rows[1].ends, ("9".to_owned(), "0".to_owned()));
+}
+
+#[test]
+fn the_strokes_of_the_specification() {
+    let folder = Folder::new();
+    folder.write("a.tsh", strokes_of(4).in_strokes());
+    let calls = "release 1\ntick\nrelease 0\nticks 5\nrelease 0\nticks 4\n";
+    folder.write("calls", calls);
+    let ran = folder.run(&["run", "a.tsh", "--calls", "calls"]).ends(0);
+    let log = &holds(&ran)[0];
+    assert_eq!(log.tasks[1].stroke, 4);
+    let mut ticks = [1, 1, 1, 1, 0, 1, 1, 1, 0].map(Answer::Ran).to_vec();
+    ticks.push(Answer::Idle);
+    let given = log.calls.iter().filter(|(call, _)| *call == Call::Tick);
+    assert!(given.map(|(_, answer)| *answer).eq(ticks), "{ran}");
+    assert_eq!(unbroken(log), 5);
+    let rows = table(&ran.out);
+    assert_eq!(rows[0].ends, ("4".to_owned(), "0".to_owned()));
+    assert_eq!(rows[1].ends, ("8".to_owned(), "1".to_owned()));
+    reads_back(&folder, &["run", "a.tsh"], &ran);
+    // the same calls without strokes
+    folder.write("b.tsh", full_core().by_number());
+    let plain = folder.run(&["run", "b.tsh", "--calls", "calls"]).ends(0);
+    assert_eq!(unbroken(&holds(&plain)[0]), 0);
+    assert_eq!(table(&plain.out)[0].ends.0, "1");
+}
+
+#[test]
+fn strokes_of_one_tick_run_as_version_1() {
+    let folder = Folder::new();
+    for (made, _) in many_sheets(&folder, 4, 20) {
+        let made = made.with_strokes(&[1; 64]);
+        folder.write("a.tsh", made.by_number());
+        folder.write("b.tsh", made.in_strokes());
+        for how in [&["--earliest"][..], &["--random", "5"]] {
+            let one = folder.run(&[&["run", "a.tsh"], how].concat()).ends(0);
+            let three = folder.run(&[&["run", "b.tsh"], how].concat()).ends(0);
+            assert_eq!(one.out, three.out);
+        }
+    }
 }
 
 #[test]

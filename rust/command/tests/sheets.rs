@@ -28,7 +28,7 @@ fn good() -> Vec<Sheet> {
     ]
 }
 
-/// Good sheets in both versions, and many random ones.
+/// Good sheets in every version, and many random ones.
 fn accepted() -> Vec<(Sheet, u8)> {
     let mut rng = Rng(4);
     let mut sheets = good();
@@ -39,8 +39,12 @@ fn accepted() -> Vec<(Sheet, u8)> {
             sheets.push(made);
         }
     }
-    let both = |made: Sheet| [(made.clone(), 1), (made, 2)];
-    sheets.into_iter().flat_map(both).collect()
+    let every = |made: Sheet| {
+        let stroked = rng.stroked(&made);
+        [(made.clone(), 1), (made, 2), (stroked, 3)]
+    };
+    let sheets = sheets.into_iter().flat_map(every);
+    sheets.chain([(strokes_of(4), 3)]).collect()
 }
 
 #[test]
@@ -100,16 +104,37 @@ fn good_sheets_are_explained() {
                     "{figure}: {ran}"
                 );
             }
+            if version == 3 {
+                waits(&ran, &made, core);
+            }
         }
         for task in 0..made.tasks.len() {
             let number = match version {
-                1 => task,
-                _ => made.position(task),
+                2 => made.position(task),
+                _ => task,
             };
             let row = row_of(&ran, &bytes, task_at(number), 10);
             let within = made.within(task) as i64;
             assert!(numbers(row).contains(&within), "within {within}: {row}");
         }
+    }
+}
+
+/// The stroke of each task and its B stand in its row of the load, and with the sum make what the capacity has room for.
+fn waits(ran: &Ran, made: &Sheet, core: u8) {
+    let section = ran.out.split(&format!("\n\ncore {core}\n")).nth(1);
+    let mut rows = section.unwrap_or_default().lines().skip(2);
+    let (_, room) = made.work(core);
+    for task in made.order(core) {
+        let row = numbers(rows.next().unwrap_or_default());
+        let [sum, stroke, blocking, wait, together] = row[row.len() - 5..] else {
+            panic!("{ran}");
+        };
+        assert_eq!(row[0] as usize, task, "{ran}");
+        assert_eq!(stroke, i64::from(made.tasks[task].stroke), "{ran}");
+        assert_eq!(blocking, made.blocking(task) as i64, "{ran}");
+        assert_eq!(together, sum + wait, "{ran}");
+        assert!(together <= room as i64, "{ran}");
     }
 }
 
@@ -147,13 +172,18 @@ fn has_every_field(ran: &Ran, bytes: &[u8]) {
     for (position, at) in tasks.filter(|(_, at)| *at < bytes.len()) {
         let row = row_of(ran, bytes, at, 10);
         if at + 10 <= bytes.len() {
-            let fields = [
+            let mut fields = vec![
+                position as i64,
                 half(at),
                 half(at + 2),
                 i64::from(bytes[at + 4]),
-                whole(at + 6),
             ];
-            in_order(row, &[&[position as i64], &fields[..]].concat());
+            // as a number in version 3, else as a byte
+            if ran.out.contains("  stroke  factor") {
+                fields.push(i64::from(bytes[at + 5]));
+            }
+            fields.push(whole(at + 6));
+            in_order(row, &fields);
         }
     }
     let cores = (0..c).map(|core| (core, task_at(n) + 8 * core));
@@ -190,7 +220,7 @@ fn in_order(row: &str, wanted: &[i64]) {
 #[test]
 fn every_refusal_occurs() {
     let all = damages();
-    for version in [1, 2] {
+    for version in [1, 2, 3] {
         let numbers = all
             .iter()
             .filter(|damage| damage.bytes.get(3) == Some(&version));
@@ -199,7 +229,8 @@ fn every_refusal_occurs() {
         numbers.dedup();
         let expected: &[u8] = match version {
             1 => &[1, 2, 4, 5, 6, 7, 8, 9, 10, 11, 12, 13, 14],
-            _ => &[1, 2, 4, 5, 6, 7, 8, 10, 11, 12, 13, 14, 23],
+            2 => &[1, 2, 4, 5, 6, 7, 8, 10, 11, 12, 13, 14, 23],
+            _ => &[1, 2, 4, 5, 6, 7, 8, 9, 10, 11, 12, 13, 14, 25],
         };
         let known: Vec<u8> = numbers.into_iter().filter(|&number| number != 3).collect();
         assert_eq!(known, expected);
@@ -255,7 +286,11 @@ fn every_refusal_stops_a_move() {
     for damage in damages() {
         folder.write("a.tsh", &damage.bytes);
         let ran = folder.run(&["move", "a.tsh"]).ends(1).prints_nothing();
-        ran.tells(&told(&damage));
+        match damage.bytes.len() >= 8 && damage.bytes.starts_with(b"TSH\x03\x00") {
+            // whatever else is wrong with it
+            true => ran.tells("a.tsh: refused 3 (Version): a sheet of version 3 is not moved"),
+            false => ran.tells(&told(&damage)),
+        };
         let ran = folder.run(&["move", "a.tsh", "-o", "new.tsh"]).ends(1);
         ran.prints_nothing();
         assert!(!folder.path("new.tsh").exists());
@@ -304,17 +339,19 @@ fn any_bytes_are_explained() {
         let mut bytes = match round % 4 {
             0 => (0..rng.range(0, 900)).map(|_| rng.word() as u8).collect(),
             1 => two_cores().by_core(),
+            2 if rng.range(0, 1) == 0 => rng.sheet().in_strokes(),
             2 => rng.sheet().by_number(),
             _ => {
                 let mut bytes = vec![0xff; 8 + 10 * 64 + 8 * 8];
                 let (n, c) = (rng.range(0, 64), rng.range(0, 8));
-                bytes[..8].copy_from_slice(&[b'T', b'S', b'H', 1, 0, n as u8, c as u8, 0]);
+                let version = rng.pick(&[1, 3]);
+                bytes[..8].copy_from_slice(&[b'T', b'S', b'H', version, 0, n as u8, c as u8, 0]);
                 bytes.truncate((8 + 10 * n + 8 * c) as usize);
                 bytes
             }
         };
         if round % 4 == 0 && bytes.len() > 8 && rng.range(0, 1) == 0 {
-            bytes[..5].copy_from_slice(&[b'T', b'S', b'H', rng.range(1, 2) as u8, 0]);
+            bytes[..5].copy_from_slice(&[b'T', b'S', b'H', rng.range(1, 3) as u8, 0]);
         }
         for _ in 0..rng.range(0, 4) {
             if !bytes.is_empty() {
@@ -392,7 +429,8 @@ fn long_files_are_refused_by_their_front() {
 #[test]
 fn sheets_are_moved() {
     let folder = Folder::new();
-    for (made, version) in accepted() {
+    let moved = |(_, version): &(Sheet, u8)| *version < 3;
+    for (made, version) in accepted().into_iter().filter(moved) {
         let (bytes, other) = (made.write(version), made.write(3 - version));
         folder.write("a.tsh", &bytes);
         let ran = folder.run(&["move", "a.tsh"]).ends(0);
@@ -411,6 +449,52 @@ fn sheets_are_moved() {
         assert_eq!(ran.bytes, other);
     }
     assert_eq!(folder.names(), ["a.tsh", "b.tsh"]);
+}
+
+#[test]
+fn sheets_of_version_3_are_not_moved() {
+    let folder = Folder::new();
+    for (made, _) in accepted().into_iter().filter(|(_, version)| *version == 3) {
+        folder.write("a.tsh", made.in_strokes());
+        let ran = folder.run(&["move", "a.tsh", "-o", "b.tsh"]).ends(1);
+        let ran = ran.prints_nothing().tells("refused 3 (Version)");
+        assert!(!ran.err.contains("explain"), "it is a good sheet: {ran}");
+        folder.run(&["move", "a.tsh"]).ends(1).prints_nothing();
+    }
+    assert_eq!(folder.names(), ["a.tsh"]);
+}
+
+/// The longest stroke that is told to fit does, and one more tick does not.
+#[test]
+fn the_longest_stroke_that_is_told() {
+    let folder = Folder::new();
+    let mut told = 0;
+    for damage in damages() {
+        if damage.number != 14 || damage.bytes[3] != 3 {
+            continue;
+        }
+        folder.write("a.tsh", &damage.bytes);
+        let explained = folder.run(&["explain", "a.tsh"]).ends(1).out;
+        let words: Vec<&str> = explained.split_whitespace().collect();
+        let words = words.join(" ");
+        let Some((_, most)) = words.split_once("A stroke of a task below it may have ") else {
+            assert!(words.contains("is above one"), "{explained}");
+            continue;
+        };
+        let most = numbers(most)[0] as u8;
+        // the tasks with strokes of more than one tick are below the task that is told
+        for (length, status) in [(most, 0), (most + 1, 1)] {
+            let mut bytes = damage.bytes.clone();
+            for at in (0..usize::from(bytes[5])).map(task_at) {
+                let (stroke, budget) = (bytes[at + 5], bytes[at + 2]);
+                bytes[at + 5] = if stroke > 1 { length.min(budget) } else { 1 };
+            }
+            let ran = folder.run_on(&["list", "-"], bytes);
+            assert_eq!(ran.status, status, "{length}: {explained}");
+        }
+        told += 1;
+    }
+    assert!(told > 1, "{told}");
 }
 
 /// The bytes as an explanation says that they would be accepted, if it says so.

@@ -35,8 +35,9 @@
 //! # Versions
 //!
 //! A sheet is of version 1, with its tasks by number, or of version 2, which is for printing: its tasks stand core by core, each core by
-//! priority, and have their numbers with them. [`plan`] makes version 1, and [`move_sheet`] turns one into the other. Every call takes
-//! both, and tasks go by their numbers; only the places of a refused sheet of version 2 go by position.
+//! priority, and have their numbers with them. [`plan`] makes version 1, and [`move_sheet`] turns one into the other. Version 3 is version 1
+//! with a stroke length for each task, for jobs that cannot be broken off after just any tick; [`Core::stroke`] has an example. Every call takes
+//! all three, but for [`move_sheet`], and tasks go by their numbers; only the places of a refused sheet of version 2 go by position.
 //!
 //! # The library
 //!
@@ -60,7 +61,7 @@ mod sys;
 
 pub use job::Job;
 pub use refusal::{Place, Refusal, Word};
-pub use running::{tick_row, Core, Task};
+pub use running::{tick_row, Core, Stroke, Task};
 pub use sheet::{Sheet, SheetCore, SheetTask};
 
 /// Bytes of the longest sheet.
@@ -87,7 +88,8 @@ pub struct Counts {
 /// # Errors
 ///
 /// The first rule that is broken, in the order of the numbers 1 to 14 ([`Word::Stub`] to [`Word::Overload`]). In a sheet of version 2
-/// [`Word::Order`], 23, comes after [`Word::Budget`], 8, and [`Word::Core`], 9, does not come.
+/// [`Word::Order`], 23, comes after [`Word::Budget`], 8, and [`Word::Core`], 9, does not come. In one of version 3 [`Word::Stroke`], 25,
+/// comes after [`Word::Budget`].
 pub fn check(bytes: &[u8]) -> Result<Counts, Refusal> {
     // SAFETY: pointer and length are of one slice, which is only read.
     let answer = unsafe { sys::homvaits_check(bytes.as_ptr(), bytes.len()) };
@@ -144,7 +146,7 @@ pub fn plan(jobs: &[Job], limit: u8, start: usize) -> Result<Sheet, Refusal> {
 ///
 /// # Errors
 ///
-/// As [`check`].
+/// As [`check`], but of a sheet of version 3, good or not, [`Word::Version`], after [`Word::Mark`]: version 2 has no place for strokes.
 pub fn move_sheet(bytes: &[u8]) -> Result<Sheet, Refusal> {
     let mut out = [0; SHEET_MAX];
     // SAFETY: each pointer stands with the length of its own slice; the output is a local that no other slice overlaps.
@@ -154,8 +156,8 @@ pub fn move_sheet(bytes: &[u8]) -> Result<Sheet, Refusal> {
     Ok(Sheet::accepted(out, answer.length))
 }
 
-/// The listing of any bytes, in a lent buffer. That of a version 2 sheet is that of its version 1 sheet but for the version. A refused
-/// sheet has a listing too, one line such as `refused 14 place 64`.
+/// The listing of any bytes, in a lent buffer. That of a version 2 sheet is that of its version 1 sheet but for the version, and that of a
+/// version 3 sheet says nothing of strokes. A refused sheet has a listing too, one line such as `refused 14 place 64`.
 ///
 /// ```
 /// let mut out = [0; homvaits::LISTING_MAX];

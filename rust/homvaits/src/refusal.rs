@@ -89,7 +89,7 @@ macro_rules! words {
                 }
             }
 
-            /// The number of the word, 1 to 24.
+            /// The number of the word, 1 to 25.
             #[must_use]
             pub const fn number(self) -> u8 {
                 match self {
@@ -129,7 +129,7 @@ macro_rules! words {
 words! {
     1 Stub "Stub" Whole "there are fewer than 8 bytes"
     2 Mark "Mark" Whole "the bytes do not begin with T S H"
-    3 Version "Version" Whole "the version is not 1 or 2"
+    3 Version "Version" Whole "the version is not 1, 2 or 3, or it is 3 and the sheet was to be moved"
     4 Count "Count" Whole "there are over 64 tasks, over 8 cores or a core limit above 8"
     5 Length "Length" Whole "the length is not the one that the counts give"
     6 Spare "Spare" Offset "a spare byte is not zero"
@@ -151,6 +151,7 @@ words! {
     22 Start "Start" Whole "the start is no position in the ring"
     23 Order "Order" Whole "the old numbers, the task counts or the order of a core's tasks are wrong"
     24 Row "Row" Whole "there are fewer answer bytes than core states"
+    25 Stroke "Stroke" Task "the stroke length is 0 or above the budget"
 }
 
 impl Refusal {
@@ -183,7 +184,7 @@ impl Refusal {
         }
     }
 
-    /// The number of the word, 1 to 24. The place's is [`Place::number`].
+    /// The number of the word, 1 to 25. The place's is [`Place::number`].
     #[must_use]
     pub const fn number(self) -> u8 {
         self.word.number()
@@ -225,7 +226,7 @@ mod tests {
                 assert_eq!((refusal.number(), refusal.place.number()), (number, place));
             }
             let known = !matches!(Word::of(number), Word::Other(_));
-            assert_eq!(known, number <= 24);
+            assert_eq!(known, number <= 25);
         }
         assert_eq!(Refusal::unless_zero(0, 0), Ok(()));
     }
@@ -233,12 +234,13 @@ mod tests {
     #[test]
     fn what_only_another_library_gives_is_shown_as_it_came() {
         assert_eq!(
-            Refusal::of(25, 70).to_string(),
-            "refused 25 (unknown) at place 70: the library is of another version"
+            Refusal::of(26, 70).to_string(),
+            "refused 26 (unknown) at place 70: the library is of another version"
         );
         assert_eq!(Refusal::of(1, 70).place, Place::Other(70));
         assert_eq!(Refusal::of(23, 1).place, Place::Other(1));
         assert_eq!(Refusal::of(7, 64).place, Place::Other(64));
+        assert_eq!(Refusal::of(25, 64).place, Place::Other(64));
         assert_eq!(Refusal::of(14, 72).place, Place::Other(72));
         assert_eq!(Refusal::of(14, 63).place, Place::Other(63));
         assert_eq!(Refusal::of(21, 1).place, Place::Other(1));

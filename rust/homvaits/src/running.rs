@@ -17,6 +17,9 @@ pub struct Task {
     pub left: u16,
     /// Its number.
     pub number: u8,
+    /// Its stroke length: once a job of it has a tick, it keeps the core for so many ticks in all, or until it ends. 1 but for tasks of a
+    /// version 3 sheet.
+    pub stroke: u8,
 }
 
 impl Task {
@@ -27,10 +30,20 @@ impl Task {
     }
 }
 
+/// A stroke that lasts: the next ticks of the core go to its task.
+#[derive(Clone, Copy, Debug, PartialEq, Eq, Hash)]
+#[non_exhaustive]
+pub struct Stroke {
+    /// The number of the task.
+    pub task: u8,
+    /// Ticks left to the stroke, at least 1.
+    pub left: u8,
+}
+
 /// A running core.
 ///
 /// A core started from a [`Sheet`] ends every job on time, whatever is released, finished and ticked: a job has ended at the latest
-/// [`within`](crate::SheetTask::within) ticks after its release.
+/// [`within`](crate::SheetTask::within) ticks after its release. Between two ticks of one [`Stroke`] no other task has a tick.
 ///
 /// Time passes by [`tick`](Core::tick) and [`tick_row`] alone. A refused call leaves the core as it was.
 // A slice of cores is handed to the library as a row of states, so a core must be its state and nothing more.
@@ -80,7 +93,41 @@ impl Core {
         &self.state.tasks[..count]
     }
 
-    /// Releases a task: a job of it begins. It is pending until it has had as many ticks as the budget, or is finished.
+    /// The stroke that lasts, if one does. It begins with a tick of a task whose [`stroke`](Task::stroke) is above 1, and has then one tick
+    /// less than that, or than the job where that is shorter.
+    ///
+    /// ```
+    /// use homvaits::{Core, Sheet};
+    ///
+    /// # fn main() -> Result<(), homvaits::Refusal> {
+    /// // 1 tick every 5, and 7 ticks every 9 in strokes of 4
+    /// let sheet = Sheet::check(&[
+    ///     b'T', b'S', b'H', 3, 0, 2, 1, 0, // version 3
+    ///     5, 0, 1, 0, 0, 1, 1, 0, 0, 0, // task 0
+    ///     9, 0, 7, 0, 0, 4, 2, 0, 0, 0, // task 1
+    ///     9, 0, 0, 0, 2, 0, 0, 0, // core 0
+    /// ])?;
+    /// let mut core = Core::start(&sheet, 0)?;
+    /// core.release(1)?;
+    /// assert_eq!(core.tick()?, Some(1));
+    /// let stroke = core.stroke().unwrap();
+    /// assert_eq!((stroke.task, stroke.left), (1, 3));
+    ///
+    /// core.release(0)?; // it waits for the end of the stroke
+    /// let ticks = [core.tick()?, core.tick()?, core.tick()?, core.tick()?];
+    /// assert_eq!(ticks, [Some(1), Some(1), Some(1), Some(0)]);
+    /// assert_eq!(core.stroke(), None);
+    /// # Ok(())
+    /// # }
+    /// ```
+    #[must_use]
+    pub fn stroke(&self) -> Option<Stroke> {
+        let (task, left) = (self.state.stroke_task, self.state.stroke_left);
+        (left > 0).then_some(Stroke { task, left })
+    }
+
+    /// Releases a task: a job of it begins. It is pending until it has had as many ticks as the budget, or is finished. A stroke that lasts
+    /// goes on, whatever the priority of the task.
     ///
     /// # Errors
     ///
@@ -94,7 +141,8 @@ impl Core {
         Ok(())
     }
 
-    /// Finishes a task's job that ends before its budget is used. A job whose budget is used ends by itself.
+    /// Finishes a task's job that ends before its budget is used. A job whose budget is used ends by itself. If the job is in its stroke, the
+    /// stroke ends too; a stroke of another task goes on.
     ///
     /// # Errors
     ///
@@ -107,7 +155,8 @@ impl Core {
         Ok(())
     }
 
-    /// Begins a unit of time, and answers which task has it: the first pending one by priority, or none. Call it once for each unit.
+    /// Begins a unit of time, and answers which task has it: while a stroke lasts its task, else the first pending one by priority, or none.
+    /// Call it once for each unit.
     ///
     /// # Errors
     ///
@@ -182,6 +231,7 @@ impl fmt::Debug for Core {
     fn fmt(&self, f: &mut fmt::Formatter<'_>) -> fmt::Result {
         f.debug_struct("Core")
             .field("tasks", &self.tasks())
+            .field("stroke", &self.stroke())
             .finish()
     }
 }
@@ -211,6 +261,63 @@ mod tests {
         core.state.count = u64::MAX;
         assert_eq!(core.tick(), Err(foreign));
         assert_eq!(core.tasks().len(), 64);
+    }
+
+    #[test]
+    fn a_damaged_stroke_is_foreign() {
+        let jobs = [(5, 2), (9, 7), (9, 6)].map(|(period, budget)| Job { period, budget });
+        let mut good = Core::start_list(&jobs).unwrap();
+        good.release(1).unwrap();
+        good.release(2).unwrap();
+        good.state.tasks[1].stroke = 4;
+        good.state.tasks[2].stroke = 6;
+        let foreign = Err(Refusal {
+            word: Word::Foreign,
+            place: Place::Whole,
+        });
+        let with = |change: &dyn Fn(&mut sys::Core)| {
+            let mut core = good.clone();
+            change(&mut core.state);
+            core
+        };
+        let stroke =
+            |task, left| with(&|state| (state.stroke_task, state.stroke_left) = (task, left));
+        // none, good ones, too long, of a task that is not pending, of no task of the core, and a number without ticks
+        for (task, left, served) in [
+            (0, 0, Ok(Some(1))),
+            (1, 1, Ok(Some(1))),
+            (1, 3, Ok(Some(1))),
+            (1, 4, foreign),
+            (2, 5, Ok(Some(2))),
+            (2, 6, foreign),
+            (0, 1, foreign),
+            (3, 1, foreign),
+            (255, 1, foreign),
+            (1, 0, foreign),
+            (2, 0, foreign),
+        ] {
+            let mut core = stroke(task, left);
+            let before = core.clone();
+            assert_eq!(core.tick(), served, "{task} {left}");
+            assert!(served.is_ok() || core == before);
+        }
+        // longer than the job
+        let mut short = stroke(1, 3);
+        short.state.tasks[1].left = 3;
+        assert_eq!(short.clone().tick(), Ok(Some(1)));
+        short.state.tasks[1].left = 2;
+        assert_eq!(short.tick(), foreign);
+        for length in [0, 3] {
+            let mut core = with(&|state| state.tasks[0].stroke = length);
+            assert_eq!(core.release(0).map(|()| None), foreign);
+            assert_eq!(core.finish(1).map(|()| None), foreign);
+            assert_eq!(core.tick(), foreign);
+        }
+        // past the tasks it is not looked at, and stays
+        let mut core = with(&|state| state.tasks[3].stroke = 9);
+        assert_eq!(core.tick(), Ok(Some(1)));
+        assert_eq!(core.state.tasks[3].stroke, 9);
+        assert_eq!(core.stroke(), Some(Stroke { task: 1, left: 3 }));
     }
 
     #[test]

@@ -23,6 +23,9 @@ pub struct SheetTask {
     pub budget: u16,
     /// The number of its core.
     pub core: u8,
+    /// Its stroke length: once a job of it has a tick, it keeps the core for so many ticks in all, or until it ends. 1 in versions 1
+    /// and 2.
+    pub stroke: u8,
     /// Its factor M.
     pub factor: u32,
     /// Ticks after its release by which a job has ended, at the latest: the whole part of Q × M / D.
@@ -39,7 +42,7 @@ pub struct SheetCore {
     pub pivot: u16,
     /// Its divisor D.
     pub divisor: u32,
-    /// Its load in thousandths, rounded up: 1 to 1000. At 1000 it may still be below one, by less than a thousandth.
+    /// Its load in thousandths, rounded up: 1 to 1000. At 1000 it may still be below one, by less than a thousandth. Strokes are not in it.
     pub load: u16,
 }
 
@@ -75,13 +78,13 @@ impl Sheet {
         &self.bytes[..self.length]
     }
 
-    /// The version of the sheet: 1 or 2.
+    /// The version of the sheet: 1, 2 or 3.
     #[must_use]
     pub fn version(&self) -> u8 {
         self.byte(3)
     }
 
-    /// The tasks by number, in either version.
+    /// The tasks by number, in every version.
     #[must_use]
     pub fn tasks(
         &self,
@@ -103,11 +106,11 @@ impl Sheet {
 
     fn task(&self, number: u8) -> SheetTask {
         self.at(match self.version() {
-            1 => number,
             // each number is there once
-            _ => (0..self.task_count())
+            2 => (0..self.task_count())
                 .find(|&position| self.byte(8 + 10 * usize::from(position) + 4) == number)
                 .unwrap_or(0),
+            _ => number,
         })
     }
 
@@ -115,8 +118,12 @@ impl Sheet {
     fn at(&self, position: u8) -> SheetTask {
         let at = 8 + 10 * usize::from(position);
         let (number, core) = match self.version() {
-            1 => (position, self.byte(at + 4)),
-            _ => (self.byte(at + 4), self.core_of(position)),
+            2 => (self.byte(at + 4), self.core_of(position)),
+            _ => (position, self.byte(at + 4)),
+        };
+        let stroke = match self.version() {
+            3 => self.byte(at + 5),
+            _ => 1,
         };
         let factor = self.long(at + 6);
         let within =
@@ -126,6 +133,7 @@ impl Sheet {
             period: self.word(at),
             budget: self.word(at + 2),
             core,
+            stroke,
             factor,
             within: within as u16,
         }

@@ -7,6 +7,8 @@ use crate::Task;
 pub struct Core {
     pub count: u64,
     pub tasks: [Task; 64],
+    pub stroke_task: u8,
+    pub stroke_left: u8,
 }
 
 #[repr(C)]

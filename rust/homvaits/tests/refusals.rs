@@ -12,6 +12,9 @@ const FULL: [u8; 46] = [
     3, 0, 0, 0, 1, 0, 0, 0, // core 0
 ];
 
+const VERSION: &str =
+    "refused 3 (Version): the version is not 1, 2 or 3, or it is 3 and the sheet was to be moved";
+
 fn job(period: u16, budget: u16) -> Job {
     Job { period, budget }
 }
@@ -48,12 +51,7 @@ fn sheets() {
         Place::Whole,
         "refused 2 (Mark): the bytes do not begin with T S H",
     );
-    refused(
-        changed(3, 3),
-        Word::Version,
-        Place::Whole,
-        "refused 3 (Version): the version is not 1 or 2",
-    );
+    refused(changed(3, 4), Word::Version, Place::Whole, VERSION);
     refused(
         changed(5, 65),
         Word::Count,
@@ -179,6 +177,70 @@ fn sheets_of_version_2() {
     );
 
     let sheet = Sheet::check(&GROUPED).unwrap();
+    refused(
+        Core::start(&sheet, 1),
+        Word::Core,
+        Place::Whole,
+        "refused 9 (Core): there is no such core",
+    );
+}
+
+/// The three tasks in version 3, with strokes of 1, 1 and 2 ticks. The core is full, but task 0 could wait for 2 ticks.
+const STROKED: [u8; 46] = [
+    b'T', b'S', b'H', 3, 0, 3, 1, 0, // header
+    3, 0, 1, 0, 0, 1, 1, 0, 0, 0, // task 0
+    7, 0, 1, 0, 0, 1, 2, 0, 0, 0, // task 1
+    13, 0, 6, 0, 0, 2, 4, 0, 0, 0, // task 2
+    3, 0, 0, 0, 1, 0, 0, 0, // core 0
+];
+
+#[test]
+fn sheets_of_version_3() {
+    assert!(Sheet::check(&STROKED).is_ok());
+    refused(move_sheet(&STROKED), Word::Version, Place::Whole, VERSION);
+    let changed = |at: usize, byte: u8| {
+        let mut bytes = STROKED;
+        bytes[at] = byte;
+        let refusal = Sheet::check(&bytes).unwrap_err();
+        assert_eq!(check(&bytes).unwrap_err(), refusal);
+        // whatever else is wrong
+        refused(move_sheet(&bytes), Word::Version, Place::Whole, VERSION);
+        Sheet::check(&bytes)
+    };
+    let stroke = "the stroke length is 0 or above the budget";
+    for (at, byte, task) in [(13, 0, 0), (13, 2, 0), (23, 2, 1), (33, 0, 2), (33, 7, 2)] {
+        let text = format!("refused 25 (Stroke) at task {task}: {stroke}");
+        refused(changed(at, byte), Word::Stroke, Place::Task(task), &text);
+    }
+    // a stroke of 3 fits below task 0, one of 4 does not
+    let mut longer = STROKED;
+    longer[33] = 3;
+    assert!(Sheet::check(&longer).is_ok());
+    refused(
+        changed(33, 4),
+        Word::Overload,
+        Place::Core(0),
+        "refused 14 (Overload) at core 0: the core has more work than time",
+    );
+    refused(
+        changed(7, 1),
+        Word::Spare,
+        Place::Offset(7),
+        "refused 6 (Spare) at byte 7: a spare byte is not zero",
+    );
+    refused(
+        changed(40, 1),
+        Word::Spare,
+        Place::Offset(40),
+        "refused 6 (Spare) at byte 40: a spare byte is not zero",
+    );
+    refused(
+        changed(12, 1),
+        Word::Core,
+        Place::Task(0),
+        "refused 9 (Core) at task 0: there is no such core",
+    );
+    let sheet = Sheet::check(&STROKED).unwrap();
     refused(
         Core::start(&sheet, 1),
         Word::Core,

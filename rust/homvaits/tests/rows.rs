@@ -71,29 +71,65 @@ fn a_core_without_tasks_is_idle_in_its_row() {
     assert_eq!(row[0].tasks(), []);
 }
 
+/// What the answers of a core tell of strokes: the ticks of each task since its last release, and who had the last tick.
+#[derive(Clone)]
+struct Strokes {
+    had: [u16; 64],
+    last: Option<u8>,
+}
+
+impl Strokes {
+    /// A task has a tick. Between two ticks of one stroke no other tick came. Answers whether it goes on with a stroke.
+    fn tick(&mut self, sheet: &Sheet, task: Option<u8>) -> bool {
+        let mut goes_on = false;
+        if let Some(number) = task {
+            let had = &mut self.had[usize::from(number)];
+            let stroke = sheet.tasks().nth(number.into()).unwrap().stroke;
+            goes_on = *had % u16::from(stroke) != 0;
+            assert!(!goes_on || self.last == task);
+            *had += 1;
+        }
+        self.last = task;
+        goes_on
+    }
+}
+
 #[test]
 fn rows_of_all_cores_of_a_sheet_run_as_each_core_by_itself_and_on_time() {
     let mut rng = Rng(6);
-    let (mut longest, mut served, mut idle, mut short) = (0, 0, 0, 0);
+    let (mut longest, mut served, mut idle, mut short, mut unbroken) = (0, 0, 0, 0, 0);
     sheets(7, |sheet| {
         if rng.range(0, 15) > 0 {
             return;
         }
-        let sheet = match rng.range(0, 1) {
+        let sheet = match rng.range(0, 2) {
             0 => sheet,
-            _ => move_sheet(sheet.as_bytes()).unwrap(),
+            1 => move_sheet(sheet.as_bytes()).unwrap(),
+            _ => rng.with_strokes(&sheet),
         };
         let within: Vec<u16> = sheet.tasks().map(|task| task.within).collect();
+        let fresh = Strokes {
+            had: [0; 64],
+            last: None,
+        };
+        let mut strokes = vec![fresh; sheet.cores().len()];
         let mut row = started(&sheet);
         let mut alone = row.clone();
         let count = row.len();
         longest = longest.max(count);
         for _ in 0..60 {
-            for (core, other) in row.iter_mut().zip(&mut alone) {
+            let cores = row.iter_mut().zip(&mut alone).zip(&mut strokes);
+            for ((core, other), strokes) in cores {
                 let numbers: Vec<u8> = core.tasks().iter().map(|task| task.number).collect();
                 for number in numbers {
                     match rng.range(0, 19) {
-                        0..=9 => assert_eq!(core.release(number), other.release(number)),
+                        0..=9 => {
+                            let answer = core.release(number);
+                            assert_eq!(answer, other.release(number));
+                            if answer.is_ok() {
+                                strokes.had[usize::from(number)] = 0;
+                            }
+                        }
                         10 => assert_eq!(core.finish(number), other.finish(number)),
                         _ => {}
                     }
@@ -111,9 +147,14 @@ fn rows_of_all_cores_of_a_sheet_run_as_each_core_by_itself_and_on_time() {
                 short += 1;
             }
             tick_row(&mut row, &mut answers).unwrap();
-            for (core, answer) in alone.iter_mut().zip(answers) {
+            for ((core, answer), strokes) in alone.iter_mut().zip(answers).zip(&mut strokes) {
+                let stroke = core.stroke();
                 let task = core.tick().unwrap();
                 assert_eq!(answer, task.unwrap_or(IDLE));
+                // a stroke that lasts is what the answers tell
+                assert_eq!(strokes.tick(&sheet, task), stroke.is_some());
+                assert!(stroke.is_none_or(|stroke| Some(stroke.task) == task));
+                unbroken += usize::from(stroke.is_some());
                 served += usize::from(task.is_some());
                 idle += usize::from(task.is_none());
             }
@@ -125,6 +166,7 @@ fn rows_of_all_cores_of_a_sheet_run_as_each_core_by_itself_and_on_time() {
             }
         }
     });
-    println!("rows of up to {longest} cores, {served} served, {idle} idle, {short} refused");
+    println!("rows of up to {longest} cores, {served} served, {unbroken} in a stroke, {idle} idle, {short} refused");
     assert!(longest == 8 && served > 10_000 && idle > 10_000 && short > 1000);
+    assert!(unbroken > 1000);
 }

@@ -137,6 +137,79 @@ fn a_moved_sheet_runs_by_the_old_numbers() {
     assert_eq!(list(same_order.as_bytes(), &mut [0; LISTING_MAX]), text);
 }
 
+/// One tick every 5, and seven ticks every 9 in strokes of so many.
+fn in_strokes_of(ticks: u8) -> Sheet {
+    let mut bytes = plan(&JOBS, 1, 0).unwrap().as_bytes().to_vec();
+    bytes[3] = 3;
+    bytes[13] = 1;
+    bytes[23] = ticks;
+    Sheet::check(&bytes).unwrap()
+}
+
+/// The task and the ticks left of the stroke that lasts.
+fn stroke(core: &Core) -> Option<(u8, u8)> {
+    core.stroke().map(|stroke| (stroke.task, stroke.left))
+}
+
+#[test]
+fn a_stroke_of_the_task_below_is_waited_for() {
+    let sheet = in_strokes_of(4);
+    let text = LISTING.replace("TSH 1", "TSH 3");
+    assert_eq!(list(sheet.as_bytes(), &mut [0; LISTING_MAX]), text);
+    let strokes: Vec<u8> = sheet.tasks().map(|task| task.stroke).collect();
+    assert_eq!(strokes, [1, 4]);
+
+    let mut core = Core::start(&sheet, 0).unwrap();
+    assert_eq!(core.tasks()[1].stroke, 4);
+    core.release(1).unwrap();
+    let (mut served, mut lasting) = (Vec::new(), Vec::new());
+    for i in 0..9 {
+        if i == 1 || i == 6 {
+            core.release(0).unwrap();
+        }
+        served.push(core.tick().unwrap().unwrap());
+        lasting.push(stroke(&core).map_or(0, |(task, left)| {
+            assert_eq!(task, 1);
+            left
+        }));
+    }
+    // the job of task 0 ends on its fourth tick, the last that it may; the second stroke of task 1 has the three ticks left
+    assert_eq!(served, [1, 1, 1, 1, 0, 1, 1, 1, 0]);
+    assert_eq!(lasting, [3, 2, 1, 0, 0, 2, 1, 0, 0]);
+}
+
+#[test]
+fn a_finish_ends_the_stroke_of_its_own_job_alone() {
+    let mut core = Core::start(&in_strokes_of(4), 0).unwrap();
+    core.release(1).unwrap();
+    assert_eq!(core.tick(), Ok(Some(1)));
+    core.release(0).unwrap();
+    core.finish(0).unwrap();
+    assert_eq!(stroke(&core), Some((1, 3)));
+    assert_eq!(core.tick(), Ok(Some(1)));
+    left(&mut core, |c| c.finish(0), Word::Quiet, Place::Task(0));
+    left(&mut core, |c| c.release(0), Word::Early, Place::Task(0));
+    assert_eq!(stroke(&core), Some((1, 2)));
+    core.finish(1).unwrap();
+    assert_eq!(stroke(&core), None);
+    assert_eq!(core.tick(), Ok(None));
+}
+
+#[test]
+fn strokes_of_one_tick_run_as_version_1() {
+    let mut plain = Core::start(&plan(&JOBS, 1, 0).unwrap(), 0).unwrap();
+    let mut core = Core::start(&in_strokes_of(1), 0).unwrap();
+    assert_eq!(core, plain);
+    for i in 0..40 {
+        for task in 0..2 {
+            assert_eq!(core.release(task), plain.release(task));
+        }
+        assert_eq!((i, core.tick()), (i, plain.tick()));
+        assert_eq!(core, plain);
+        assert_eq!(core.stroke(), None);
+    }
+}
+
 #[test]
 fn clones_go_their_own_ways() {
     let mut core = Core::start(&plan(&JOBS, 1, 0).unwrap(), 0).unwrap();

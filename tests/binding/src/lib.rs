@@ -12,8 +12,8 @@ mod layout {
 use reference::{CheckAnswer, ListAnswer, MarginAnswer, MoveAnswer, PlanAnswer};
 use reference::{Core, CoreAnswer, RowAnswer, TickAnswer};
 
-// a row of states stands in memory as in C: one after the other, 648 bytes each
-const _: () = assert!(size_of::<[Core; 2]>() == 2 * 648 && align_of::<Core>() == 8);
+// a row of states stands in memory as in C: one after the other, 656 bytes each
+const _: () = assert!(size_of::<[Core; 2]>() == 2 * 656 && align_of::<Core>() == 8);
 
 extern "C" {
     fn homvaits_check(sheet: *const u8, len: usize) -> CheckAnswer;

@@ -1,8 +1,11 @@
 //! The dispatcher: starts, single calls on any state, long lists of calls.
 
-use crate::checking::{GROUPED_RULES, RULES};
+use crate::checking::{GROUPED_RULES, RULES, STROKE_RULES};
+use crate::form;
 use crate::on_time::{jobs_on_time, Entry, Promise};
 use crate::session::{fail, hex, same, Session};
+use crate::stroked::Stroked;
+use crate::unbroken::unbroken;
 use inputs::*;
 use reference::{Core, CoreAnswer, Sheet, TickAnswer};
 
@@ -10,6 +13,8 @@ pub fn must_have_seen(session: &Session) {
     let (none, task) = ("place 0", "a task above 0");
     session.must_have_seen("start", &RULES);
     session.must_have_seen("start", &GROUPED_RULES);
+    session.must_have_seen("start of version 3", &STROKE_RULES);
+    session.must_have_seen("start of version 3", &[(0, STROKES), (9, "place 0")]);
     session.must_have_seen("start", &[(0, "accepted"), (9, "a missing core")]);
     session.must_have_seen("start_list", &[(0, "no tasks"), (0, "tasks")]);
     session.must_have_seen("start_list", &[(4, none), (5, none), (7, task), (8, task)]);
@@ -20,11 +25,42 @@ pub fn must_have_seen(session: &Session) {
     session.must_have_seen("tick", &[(0, "idle"), (0, "served"), (21, none)]);
     session.must_have_seen("tick", &SERVED_AT.map(|place| (0, place)));
     session.must_have_seen("tick", &[(0, LAST_PART), (0, PAST)]);
-    session.must_have_seen("job on time", &[(0, VERSION_1), (0, VERSION_2)]);
+    session.must_have_seen("tick", &[(0, IN_STROKE), (0, HELD), (0, LAST_TICK)]);
+    session.must_have_seen("tick", &[(0, OF_TASK_0), (0, BEGINS), (0, WHOLE), (0, CUT)]);
+    session.must_have_seen("tick", &[(0, CUT_TO_ONE)]);
+    for refusal in [0, 17, 18, 19] {
+        session.must_have_seen("release", &[(refusal, IN_STROKE)]);
+    }
+    for refusal in [0, 17, 20] {
+        session.must_have_seen("finish", &[(refusal, IN_STROKE)]);
+    }
+    session.must_have_seen("finish", &[(0, OWN_STROKE)]);
+    for call in ["release", "finish", "tick"] {
+        session.must_have_seen(call, &form::REASONS);
+    }
+    session.must_have_seen("job on time", &VERSIONS.map(|version| (0, version)));
+    session.must_have_seen("strokes", &[(0, LONG), (0, WAITED_FOR), (0, FINISHED)]);
 }
 
-pub const VERSION_1: &str = "of a version 1 sheet";
-pub const VERSION_2: &str = "of a version 2 sheet";
+pub const VERSIONS: [&str; 3] = [
+    "of a version 1 sheet",
+    "of a version 2 sheet",
+    "of a version 3 sheet",
+];
+
+const STROKES: &str = "tasks with strokes of several ticks";
+const IN_STROKE: &str = "in a stroke";
+const OWN_STROKE: &str = "in the job's own stroke";
+const HELD: &str = "in a stroke, with a task above it pending";
+const LAST_TICK: &str = "the last tick of a stroke";
+const OF_TASK_0: &str = "in a stroke of task 0";
+const BEGINS: &str = "a stroke begins, and more is left to the job";
+const WHOLE: &str = "a stroke begins that ends with the job";
+const CUT: &str = "a stroke begins that is cut to the job";
+const CUT_TO_ONE: &str = "a stroke is cut to its first tick";
+pub const LONG: &str = "a stroke of several ticks";
+pub const WAITED_FOR: &str = "a stroke that keeps a task above waiting";
+const FINISHED: &str = "a stroke that a finish ends";
 
 /// Where the task that is served stands among its eight, for a library that
 /// looks at eight places at a time.
@@ -45,8 +81,10 @@ pub fn round(session: &mut Session, rng: &mut Rng) {
     lists(session, rng);
     single_calls(session, rng);
     pending_sets(session, rng);
-    for _ in 0..6 {
+    for _ in 0..9 {
         run_of_sheet(session, rng);
+    }
+    for _ in 0..6 {
         run_of_list(session, rng);
     }
 }
@@ -110,12 +148,14 @@ fn kinds_of_tick(session: &mut Session, core: &Core, task: u8) {
     }
 }
 
-/// An accepted sheet, and its version.
-pub fn sheet_to_run(rng: &mut Rng) -> (Vec<u8>, &'static str) {
-    match rng.below(4) {
-        0 => (planned_sheet(rng), VERSION_1),
-        1 => (handmade_sheet(rng), VERSION_1),
-        _ => (grouped_sheet(rng), VERSION_2),
+/// An accepted sheet, its version, and a style of calls on its cores.
+pub fn sheet_to_run(rng: &mut Rng) -> (Vec<u8>, &'static str, u64) {
+    let style = rng.range(1, 5);
+    match rng.below(6) {
+        0 => (planned_sheet(rng), VERSIONS[0], style),
+        1 => (handmade_sheet(rng), VERSIONS[0], style),
+        2 | 3 => (grouped_sheet(rng), VERSIONS[1], style),
+        _ => (stroke_sheet(rng), VERSIONS[2], rng.pick(&[0, 0, style])),
     }
 }
 
@@ -125,13 +165,14 @@ pub fn promises(sheet: &Sheet, core: usize) -> Vec<Promise> {
         number: i as u64,
         period: sheet.tasks[i].period,
         budget: sheet.tasks[i].budget,
+        stroke: sheet.tasks[i].stroke,
         within: Some(sheet.within(i)),
     };
     sheet.by_priority(core).into_iter().map(promise).collect()
 }
 
 fn run_of_sheet(session: &mut Session, rng: &mut Rng) {
-    let (bytes, version) = sheet_to_run(rng);
+    let (bytes, version, style) = sheet_to_run(rng);
     let sheet = reference::accept(&bytes).expect("the sheet is accepted");
     if sheet.cores.is_empty() {
         return;
@@ -140,9 +181,11 @@ fn run_of_sheet(session: &mut Session, rng: &mut Rng) {
     let tasks = promises(&sheet, number);
     let fresh = start_sheet(session, &bytes, number as u64).core;
     let input = || format!("{} core {number}", hex(&bytes));
-    if run(session, rng, fresh, &tasks, input) > 0 {
+    let log = run(session, rng, fresh, style);
+    if on_time(session, &log, &tasks, input) > 0 {
         session.saw("job on time", (0, version));
     }
+    strokes(session, "strokes", &log, &tasks, input);
 }
 
 fn run_of_list(session: &mut Session, rng: &mut Rng) {
@@ -153,22 +196,19 @@ fn run_of_list(session: &mut Session, rng: &mut Rng) {
         number: task.number as u64,
         period: task.period as u64,
         budget: task.budget as u64,
+        stroke: 1,
         within: None,
     };
     let tasks: Vec<Promise> = fresh.used().iter().map(promise).collect();
-    run(session, rng, fresh, &tasks, || hex(&list));
+    let style = rng.range(1, 5);
+    let log = run(session, rng, fresh, style);
+    on_time(session, &log, &tasks, || hex(&list));
+    strokes(session, "strokes", &log, &tasks, || hex(&list));
 }
 
-/// A long list of calls from a fresh state, each on the state before it. The
-/// answer is the number of jobs that were owed and ended in time.
-fn run(
-    session: &mut Session,
-    rng: &mut Rng,
-    fresh: Core,
-    tasks: &[Promise],
-    input: impl Fn() -> String,
-) -> u64 {
-    let style = rng.range(1, 5);
+/// The log of a long list of calls from a fresh state, each on the state before
+/// it.
+fn run(session: &mut Session, rng: &mut Rng, fresh: Core, style: u64) -> Vec<Entry> {
     let mut core = fresh;
     let mut log = Vec::new();
     for _ in 0..rng.range(0, 3000) {
@@ -185,7 +225,7 @@ fn run(
             task,
         });
     }
-    on_time(session, &log, tasks, input)
+    log
 }
 
 /// The number of jobs that were owed and ended in time; a job that did not is
@@ -204,6 +244,31 @@ pub fn on_time(
         Err(what) => {
             let calls: Vec<Call> = log.iter().map(|entry| entry.call).collect();
             fail("the on-time rule", &format!("{} {calls:?}", input()), &what);
+        }
+    }
+}
+
+/// No stroke of the log is broken; a broken one is a difference.
+pub fn strokes(
+    session: &mut Session,
+    call: &'static str,
+    log: &[Entry],
+    tasks: &[Promise],
+    input: impl Fn() -> String,
+) {
+    match unbroken(log, tasks) {
+        Ok(strokes) => {
+            session.cases += (strokes.long > 0) as u64;
+            let counts = [strokes.long, strokes.held, strokes.finished];
+            for (count, kind) in counts.into_iter().zip([LONG, WAITED_FOR, FINISHED]) {
+                if count > 0 {
+                    session.saw(call, (0, kind));
+                }
+            }
+        }
+        Err(what) => {
+            let calls: Vec<Call> = log.iter().map(|entry| entry.call).collect();
+            fail("unbroken strokes", &format!("{} {calls:?}", input()), &what);
         }
     }
 }
@@ -231,7 +296,35 @@ pub fn start_sheet(session: &mut Session, bytes: &[u8], core: u64) -> CoreAnswer
     if reference.refusal == 9 && reference::accept(bytes).is_ok() {
         session.saw("start", (9, "a missing core"));
     }
+    if let Some(stroked) = Stroked::of(bytes) {
+        stroked_start(session, &stroked, core, &library, input);
+    }
     library
+}
+
+/// A start from a version 3 sheet is that from its version 1 sheet but for the
+/// stroke lengths, where it is accepted.
+fn stroked_start(
+    session: &mut Session,
+    stroked: &Stroked,
+    core: u64,
+    library: &CoreAnswer,
+    input: impl Fn() -> String,
+) {
+    let call = "start of version 3";
+    let accepted = match stroked.only_short() {
+        true => "strokes of one tick only",
+        false => STROKES,
+    };
+    session.case(call, library.refusal, library.place, accepted);
+    if library.refusal == 0 {
+        let mut plain = binding::start_sheet(&stroked.by_version_1(), core);
+        for place in 0..plain.core.count as usize {
+            let task = &mut plain.core.tasks[place];
+            task.stroke = stroked.length(task.number as usize);
+        }
+        same(call, input, &plain, library);
+    }
 }
 
 fn start_list(session: &mut Session, list: &[u8]) -> CoreAnswer {
@@ -252,6 +345,7 @@ pub fn release(session: &mut Session, core: Core, number: u64) -> CoreAnswer {
     let input = || format!("{} number {number}", state_hex(&core));
     same("release", input, &reference, &library);
     session.case("release", reference.refusal, reference.place, "accepted");
+    kinds_of_call(session, "release", &core, reference.refusal);
     library
 }
 
@@ -261,7 +355,27 @@ pub fn finish(session: &mut Session, core: Core, number: u64) -> CoreAnswer {
     let input = || format!("{} number {number}", state_hex(&core));
     same("finish", input, &reference, &library);
     session.case("finish", reference.refusal, reference.place, "accepted");
+    if reference.refusal == 0 && in_stroke(&core) && core.stroke_task as u64 == number {
+        session.saw("finish", (0, OWN_STROKE));
+    } else {
+        kinds_of_call(session, "finish", &core, reference.refusal);
+    }
     library
+}
+
+fn in_stroke(core: &Core) -> bool {
+    core.stroke_left > 0
+}
+
+/// The kinds of a call in a stroke, and of a call on a Foreign state.
+fn kinds_of_call(session: &mut Session, call: &'static str, core: &Core, refusal: u8) {
+    if refusal == 21 {
+        if let Some(reason) = form::only_reason(core) {
+            session.saw(call, (21, reason));
+        }
+    } else if in_stroke(core) {
+        session.saw(call, (refusal, IN_STROKE));
+    }
 }
 
 pub fn tick(session: &mut Session, core: Core) -> TickAnswer {
@@ -273,17 +387,48 @@ pub fn tick(session: &mut Session, core: Core) -> TickAnswer {
         _ => "served",
     };
     session.case("tick", reference.refusal, reference.place, accepted);
+    kinds_of_call(session, "tick", &core, reference.refusal);
+    if reference.refusal == 0 {
+        kinds_of_stroke(session, &core, reference.task);
+    }
     library
 }
 
-/// The count, and a state's tasks field by field, low byte first.
+/// The kinds of an accepted tick by the stroke in which it is or which it
+/// begins.
+fn kinds_of_stroke(session: &mut Session, core: &Core, task: u8) {
+    let mut saw = |applies: bool, kind: &'static str| {
+        if applies {
+            session.saw("tick", (0, kind));
+        }
+    };
+    let served = |other: &reference::Task| other.number == task;
+    let Some(place) = core.used().iter().position(served) else {
+        return;
+    };
+    if in_stroke(core) {
+        let above = &core.tasks[..place];
+        saw(above.iter().any(|task| task.left > 0), HELD);
+        saw(core.stroke_left == 1, LAST_TICK);
+        saw(task == 0, OF_TASK_0);
+    } else if core.tasks[place].stroke > 1 {
+        let (stroke, left) = (core.tasks[place].stroke as u16, core.tasks[place].left);
+        saw(left > stroke, BEGINS);
+        saw(left == stroke, WHOLE);
+        saw(left < stroke && left > 1, CUT);
+        saw(left == 1, CUT_TO_ONE);
+    }
+}
+
+/// The count, a state's tasks field by field, and the stroke, low byte first.
 pub fn state_hex(core: &Core) -> String {
     let mut bytes = core.count.to_le_bytes().to_vec();
     for task in &core.tasks {
         for field in [task.period, task.budget, task.age, task.left] {
             bytes.extend(field.to_le_bytes());
         }
-        bytes.push(task.number);
+        bytes.extend([task.number, task.stroke]);
     }
+    bytes.extend([core.stroke_task, core.stroke_left]);
     hex(&bytes)
 }

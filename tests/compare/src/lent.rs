@@ -104,7 +104,10 @@ fn write(place: &mut Core, core: &Core) {
         place.age = task.age;
         place.left = task.left;
         place.number = task.number;
+        place.stroke = task.stroke;
     }
+    place.stroke_task = core.stroke_task;
+    place.stroke_left = core.stroke_left;
 }
 
 /// Fail unless the bytes about a row are what they were before the call, and

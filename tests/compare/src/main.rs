@@ -3,6 +3,7 @@
 
 mod checking;
 mod dispatching;
+mod form;
 mod lent;
 mod listing;
 mod margins;
@@ -13,6 +14,8 @@ mod pending_rows;
 mod planning;
 mod rows;
 mod session;
+mod stroked;
+mod unbroken;
 
 use inputs::Rng;
 use session::Session;

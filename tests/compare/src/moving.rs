@@ -15,10 +15,19 @@ pub fn must_have_seen(session: &Session) {
     session.must_have_seen("move", &RULES);
     session.must_have_seen("move", &GROUPED_RULES);
     session.must_have_seen("move", &[(14, NO_ROOM), (23, NO_ROOM)]);
+    session.must_have_seen(
+        "move",
+        &[(3, FROM_3), (3, NO_ROOM), (3, COUNTS), (3, LENGTH)],
+    );
+    session.must_have_seen("move", &[(3, REFUSED)]);
 }
 
 const FROM_1: &str = "a sheet of version 1";
 const FROM_2: &str = "a sheet of version 2";
+const FROM_3: &str = "an accepted sheet of version 3";
+const COUNTS: &str = "version 3, and counts out of range";
+const LENGTH: &str = "version 3, and another length";
+const REFUSED: &str = "version 3, and a later refusal of the checker";
 const EMPTY: &str = "a sheet without tasks";
 const LONGEST: &str = "a sheet of 712 bytes";
 const TIED: &str = "a sheet with equal periods on a core";
@@ -27,15 +36,17 @@ const NO_ROOM: &str = "a refused sheet, and an output too short";
 pub fn round(session: &mut Session, rng: &mut Rng) {
     // outputs of every length, accepted sheets and refused ones
     let (sheet, grouped) = (handmade_sheet(rng), grouped_sheet(rng));
+    let strokes = stroke_sheet(rng);
     for room in 0..=800 {
         let kind = rng.index(GROUPED_DAMAGES);
         let damaged = damaged_grouped(rng, &grouped, kind);
-        for bytes in [&sheet, &grouped, &damaged] {
+        for bytes in [&sheet, &grouped, &damaged, &strokes] {
             move_into(session, rng, bytes, room);
         }
     }
-    for bytes in [b"TSH\x01\x00\x00\x00\x00", b"TSH\x02\x00\x00\x00\x00"] {
-        move_into(session, rng, bytes, 712);
+    for version in 1..=3 {
+        let bytes = [b'T', b'S', b'H', version, 0, 0, 0, 0];
+        move_into(session, rng, &bytes, 712);
     }
     for _ in 0..4 {
         let sheet = longest_sheet(rng);
@@ -83,6 +94,15 @@ fn compared(
     match refusal {
         16 => session.saw("move", (16, from)),
         1.. if room < 712 => session.saw("move", (refusal, NO_ROOM)),
+        3 if bytes[3..5] == [3, 0] => {
+            let kind = match reference::check(bytes).refusal {
+                0 => FROM_3,
+                4 => COUNTS,
+                5 => LENGTH,
+                _ => REFUSED,
+            };
+            session.saw("move", (3, kind));
+        }
         _ => {}
     }
     let moved = theirs.lend()[..library.length as usize].to_vec();

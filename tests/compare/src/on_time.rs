@@ -16,6 +16,7 @@ pub struct Promise {
     pub number: u64,
     pub period: u64,
     pub budget: u64,
+    pub stroke: u64,
     pub within: Option<u64>,
 }
 
@@ -24,7 +25,7 @@ impl Entry {
         self.call == Call::Tick
     }
 
-    fn accepted(&self, call: Call) -> bool {
+    pub fn accepted(&self, call: Call) -> bool {
         self.call == call && self.refusal == 0
     }
 
@@ -102,6 +103,24 @@ fn ended_in_time(entry: &Entry, after: &[Entry], task: &Promise) -> Result<bool,
     Ok(false)
 }
 
+/// Releases and finishes with their refusals, ticks with their tasks.
+#[cfg(test)]
+pub fn log(list: &[(Call, u8)]) -> Vec<Entry> {
+    let entry = |&(call, answer): &(Call, u8)| match call {
+        Call::Tick => Entry {
+            call,
+            refusal: 0,
+            task: answer,
+        },
+        _ => Entry {
+            call,
+            refusal: answer,
+            task: 0,
+        },
+    };
+    list.iter().map(entry).collect()
+}
+
 #[cfg(test)]
 mod tests {
     use super::*;
@@ -111,25 +130,9 @@ mod tests {
         number: 3,
         period: 4,
         budget: 2,
+        stroke: 1,
         within: Some(3),
     }];
-
-    /// Releases and finishes with their refusals, ticks with their tasks.
-    fn log(list: &[(Call, u8)]) -> Vec<Entry> {
-        let entry = |&(call, answer): &(Call, u8)| match call {
-            Tick => Entry {
-                call,
-                refusal: 0,
-                task: answer,
-            },
-            _ => Entry {
-                call,
-                refusal: answer,
-                task: 0,
-            },
-        };
-        list.iter().map(entry).collect()
-    }
 
     fn jobs(list: &[(Call, u8)]) -> Option<u64> {
         jobs_on_time(&log(list), &TASKS).ok()

@@ -7,7 +7,10 @@ use inputs::{pending_states, Rng};
 use reference::{Core, Task, IDLE};
 
 /// Kinds by the place of a task.
-const SERVED: &str = "a task served";
+const SERVED: &str = "a task served outside strokes";
+const BEGINS: &str = "a task served that begins a stroke of several ticks";
+const IN_STROKE: &str = "a task served in its stroke";
+const HELD: &str = "a task served in its stroke, with one above it pending";
 const AT_PERIOD: &str = "an age at the period";
 const ONE_BELOW: &str = "an age one below the period";
 const FAR_BELOW: &str = "an age more than 255 below the period";
@@ -16,9 +19,10 @@ const IDLE_OF: &str = "an idle state by its count";
 const IDLE_PAST: &str = "an idle state with ticks left past its tasks by its count";
 
 pub fn must_have_seen(session: &Session) {
-    for kind in [SERVED, AT_PERIOD, ONE_BELOW, FAR_BELOW] {
+    for kind in [SERVED, BEGINS, IN_STROKE, AT_PERIOD, ONE_BELOW, FAR_BELOW] {
         session.must_have_seen_at("tick_row", kind, 0..64);
     }
+    session.must_have_seen_at("tick_row", HELD, 1..64);
     session.must_have_seen_at("tick_row", IDLE_OF, 0..65);
     session.must_have_seen_at("tick_row", IDLE_PAST, 0..64);
 }
@@ -52,7 +56,20 @@ fn kinds(session: &mut Session, core: &Core, task: u8) {
         places.map(|place| 1 << place).sum()
     };
     let mut saw = |kind, places| session.saw_at("tick_row", kind, places);
-    saw(SERVED, places(&|other| other.number == task));
+    let served = places(&|other| other.number == task);
+    if core.stroke_left > 0 {
+        saw(IN_STROKE, served);
+        // a bit below that of the task
+        if places(&|task| task.left > 0) & (served - 1) != 0 {
+            saw(HELD, served);
+        }
+    } else {
+        saw(SERVED, served);
+        saw(
+            BEGINS,
+            served & places(&|task| task.stroke > 1 && task.left > 1),
+        );
+    }
     saw(AT_PERIOD, places(&|task| task.age == task.period));
     saw(ONE_BELOW, places(&|task| task.age + 1 == task.period));
     saw(FAR_BELOW, places(&|task| task.age + 255 < task.period));

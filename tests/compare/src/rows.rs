@@ -3,8 +3,9 @@
 
 use crate::dispatching::{
     finish, on_time, parts, parts_of_tick, promises, release, sheet_to_run, start_sheet, state_hex,
-    tick, VERSION_1, VERSION_2,
+    strokes, tick, LONG, VERSIONS, WAITED_FOR,
 };
+use crate::form;
 use crate::lent::{same_bytes, same_row, Lent, LentRow};
 use crate::on_time::{Entry, Promise};
 use crate::session::{hex, same, Session};
@@ -25,7 +26,9 @@ pub fn must_have_seen(session: &Session) {
     let in_run = [(0, "a row"), (21, "a row"), (24, "a row")];
     session.must_have_seen("row in a run", &in_run);
     session.must_have_seen("row in a run", &[(0, OWN_IDLE), (0, OWN_SERVED)]);
-    session.must_have_seen("job on time by rows", &[(0, VERSION_1), (0, VERSION_2)]);
+    session.must_have_seen("tick_row", &form::REASONS);
+    session.must_have_seen("job on time by rows", &VERSIONS.map(|version| (0, version)));
+    session.must_have_seen("strokes by rows", &[(0, LONG), (0, WAITED_FOR)]);
 }
 
 const NO_STATES: &str = "no states";
@@ -78,7 +81,7 @@ pub fn round(session: &mut Session, rng: &mut Rng) {
         };
         single(session, rng, row, room);
     }
-    for _ in 0..3 {
+    for _ in 0..4 {
         run(session, rng);
     }
 }
@@ -296,6 +299,7 @@ fn foreign_kinds(row: &[Core], place: usize) -> Vec<&'static str> {
     if row[place + 1..].iter().any(is_foreign) {
         kinds.push(SEVERAL);
     }
+    kinds.extend(form::only_reason(&row[place]));
     kinds
 }
 
@@ -315,6 +319,7 @@ fn short_kinds(row: &[Core], room: usize) -> Vec<&'static str> {
 struct Running {
     sheet: Vec<u8>,
     version: &'static str,
+    style: u64,
     number: usize,
     tasks: Vec<Promise>,
     log: Vec<Entry>,
@@ -327,10 +332,9 @@ fn run(session: &mut Session, rng: &mut Rng) {
     let (mut cores, states) = started(session, rng);
     let count = states.len();
     let mut row = Row::new(rng, states);
-    let style = rng.range(1, 5);
     for _ in 0..rng.range(0, 300) {
         for (position, core) in cores.iter_mut().enumerate() {
-            calls_between(session, rng, &mut row, position, &mut core.log, style);
+            calls_between(session, rng, &mut row, position, core);
         }
         if count > 0 && rng.once_in(8) {
             let room = short_room(rng, count);
@@ -351,6 +355,7 @@ fn run(session: &mut Session, rng: &mut Rng) {
         if on_time(session, &core.log, &core.tasks, input) > 0 {
             session.saw("job on time by rows", (0, core.version));
         }
+        strokes(session, "strokes by rows", &core.log, &core.tasks, input);
     }
 }
 
@@ -358,13 +363,14 @@ fn run(session: &mut Session, rng: &mut Rng) {
 fn started(session: &mut Session, rng: &mut Rng) -> (Vec<Running>, Vec<Core>) {
     let (mut cores, mut states) = (Vec::new(), Vec::new());
     for _ in 0..rng.range(1, 3) {
-        let (bytes, version) = sheet_to_run(rng);
+        let (bytes, version, style) = sheet_to_run(rng);
         let sheet = reference::accept(&bytes).expect("the sheet is accepted");
         for number in 0..sheet.cores.len() {
             states.push(start_sheet(session, &bytes, number as u64).core);
             cores.push(Running {
                 sheet: bytes.clone(),
                 version,
+                style,
                 number,
                 tasks: promises(&sheet, number),
                 log: Vec::new(),
@@ -380,12 +386,11 @@ fn calls_between(
     rng: &mut Rng,
     row: &mut Row,
     position: usize,
-    log: &mut Vec<Entry>,
-    style: u64,
+    running: &mut Running,
 ) {
     loop {
         let core = row.theirs.states()[position];
-        let call = random_call(rng, &core, style);
+        let call = random_call(rng, &core, running.style);
         let (refusal, task, next) = match call {
             Call::Release(number) => parts(release(session, core, number)),
             Call::Finish(number) => parts(finish(session, core, number)),
@@ -393,7 +398,7 @@ fn calls_between(
             Call::Tick => return,
         };
         row.put(position, next);
-        log.push(Entry {
+        running.log.push(Entry {
             call,
             refusal,
             task,

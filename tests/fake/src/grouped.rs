@@ -102,7 +102,7 @@ pub fn listed_by_position(sheet: &[u8]) -> Vec<u8> {
     }
 }
 
-/// The listing of a sheet of either version as one of version 1.
+/// The listing of a sheet of any version as one of version 1.
 pub fn listed_as_version_1(sheet: &[u8]) -> Vec<u8> {
     with_version(list(sheet), b'1')
 }

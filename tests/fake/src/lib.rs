@@ -3,6 +3,7 @@
 
 mod grouped;
 mod rows;
+mod strokes;
 
 use reference::*;
 use std::slice::{from_raw_parts, from_raw_parts_mut};
@@ -27,14 +28,14 @@ fn wrong(_mistake: u32) -> bool {
 pub unsafe extern "C" fn homvaits_check(sheet: *const u8, len: usize) -> CheckAnswer {
     let mut answer = grouped::checked(from_raw_parts(sheet, len), wrong);
     // 1: overload overlooked. 2: the place of Bare without the 64. 3 to 9: in
-    // version 2.
+    // version 2. 58 to 72: in version 3.
     if wrong(1) && answer.refusal == 14 {
         answer = CheckAnswer::default();
     }
     if wrong(2) && answer.refusal == 10 {
         answer.place -= 64;
     }
-    answer
+    strokes::checked(from_raw_parts(sheet, len), answer, wrong)
 }
 
 /// # Safety
@@ -92,6 +93,9 @@ pub unsafe extern "C" fn homvaits_start(sheet: *const u8, len: usize, core: u64)
     if wrong(17) {
         answer.core = Core::EMPTY;
     }
+    if wrong(73) {
+        answer.core = strokes::started(answer.core, wrong);
+    }
     answer
 }
 
@@ -104,13 +108,17 @@ pub unsafe extern "C" fn homvaits_start_list(jobs: *const u8, len: usize) -> Cor
     if wrong(19) && answer.core.count < 64 {
         answer.core.tasks[63].number = 63;
     }
+    if wrong(74) {
+        answer.core = strokes::started(answer.core, wrong);
+    }
     answer
 }
 
 #[no_mangle]
 pub extern "C" fn homvaits_release(core: Core, number: u64) -> CoreAnswer {
-    let mut answer = release(core, number);
-    // 20: every release Early. 21: no ticks left to the job.
+    let mut answer = strokes::released(core, number, wrong);
+    // 20: every release Early. 21: no ticks left to the job. 79 and 80: about
+    // strokes.
     if wrong(20) && answer.refusal == 0 {
         let place = number as u16;
         return CoreAnswer {
@@ -131,8 +139,8 @@ pub extern "C" fn homvaits_release(core: Core, number: u64) -> CoreAnswer {
 
 #[no_mangle]
 pub extern "C" fn homvaits_finish(core: Core, number: u64) -> CoreAnswer {
-    let mut answer = finish(core, number);
-    // 22: the age counted from the end of the job
+    let mut answer = strokes::finished(core, number, wrong);
+    // 22: the age counted from the end of the job. 81 to 85: about strokes.
     if wrong(22) && answer.refusal == 0 {
         let count = answer.core.count as usize;
         let tasks = answer.core.tasks[..count].iter_mut();
@@ -145,9 +153,9 @@ pub extern "C" fn homvaits_finish(core: Core, number: u64) -> CoreAnswer {
 
 #[no_mangle]
 pub extern "C" fn homvaits_tick(core: Core) -> TickAnswer {
-    let mut answer = tick(core);
+    let mut answer = strokes::ticked(core, wrong);
     // 23: only the first task is served. 24: ages stand on idle ticks. 25: the
-    // places past the tasks cleared.
+    // places past the tasks cleared. 86 to 101: about strokes.
     if wrong(23) && answer.refusal == 0 && core.count > 0 && core.tasks[0].left == 0 {
         answer.task = IDLE;
     }
@@ -171,7 +179,10 @@ pub unsafe extern "C" fn homvaits_tick_row(
 ) -> RowAnswer {
     let row = from_raw_parts_mut(row, count);
     let answers = from_raw_parts_mut(answers, answers_length);
-    rows::ticked(row, answers, wrong)
+    match strokes::ticked_row(row, answers, wrong) {
+        Some(answer) => answer,
+        None => rows::ticked(row, answers, wrong),
+    }
 }
 
 /// # Safety
@@ -186,7 +197,7 @@ pub unsafe extern "C" fn homvaits_list(
     let (sheet, out) = (from_raw_parts(sheet, len), from_raw_parts_mut(out, out_len));
     // 26: the last line feed left out. 27: Tight by the text's length only.
     // 28: loads rounded down. 29: tasks by position. 30: each sheet as one of
-    // version 1.
+    // version 1. 75 and 76: of version 3.
     if wrong(28) && out.len() >= LISTING_ROOM {
         return put(&loads_rounded_down(sheet), out);
     }
@@ -195,6 +206,9 @@ pub unsafe extern "C" fn homvaits_list(
     }
     if wrong(30) && out.len() >= LISTING_ROOM {
         return put(&grouped::listed_as_version_1(sheet), out);
+    }
+    if (wrong(75) || wrong(76)) && out.len() >= LISTING_ROOM {
+        return put(&strokes::listed(sheet, list(sheet), wrong), out);
     }
     let mut answer = list_into(sheet, out);
     if wrong(26) && answer.refusal == 0 {
@@ -244,7 +258,10 @@ pub unsafe extern "C" fn homvaits_move(
     out_len: usize,
 ) -> MoveAnswer {
     let (sheet, out) = (from_raw_parts(sheet, len), from_raw_parts_mut(out, out_len));
-    grouped::moved(sheet, out, wrong)
+    match strokes::moved(sheet, out, wrong) {
+        Some(answer) => answer,
+        None => grouped::moved(sheet, out, wrong),
+    }
 }
 
 fn put(text: &[u8], out: &mut [u8]) -> ListAnswer {

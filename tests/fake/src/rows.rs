@@ -116,8 +116,8 @@ fn age(core: &mut Core) {
     }
 }
 
-/// Write the byte behind the number of the first task.
+/// Write the first byte behind the stroke.
 fn mark(core: &mut Core) {
-    let task: *mut Task = &mut core.tasks[0];
-    unsafe { *task.cast::<u8>().add(9) ^= 1 };
+    let core: *mut Core = core;
+    unsafe { *core.cast::<u8>().add(650) ^= 1 };
 }

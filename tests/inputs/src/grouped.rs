@@ -1,6 +1,6 @@
 //! Random sheets of version 2 and their damages.
 
-use crate::sheets::{get16, put16, Places};
+use crate::sheets::{get16, put16, random_of_version, Places};
 use crate::{damaged_sheet, handmade_sheet, likely_sheet, planned_sheet, Rng, SHEET_DAMAGES};
 use reference::Sheet;
 
@@ -52,26 +52,7 @@ pub fn likely_grouped(rng: &mut Rng) -> Vec<u8> {
 /// counts that give their length, where there are such, and zeros as spare
 /// bytes.
 pub fn random_grouped(rng: &mut Rng, length: usize) -> Vec<u8> {
-    let mut bytes: Vec<u8> = (0..length).map(|_| rng.byte()).collect();
-    if length < 8 {
-        return bytes;
-    }
-    bytes[..5].copy_from_slice(b"TSH\x02\x00");
-    bytes[5] &= 127;
-    bytes[6] &= 15;
-    let tasks_with = |cores: usize| {
-        let rest = (length - 8).checked_sub(8 * cores)?;
-        rest.is_multiple_of(10).then_some((rest / 10, cores))
-    };
-    let counts: Vec<(usize, usize)> = (0..=8).filter_map(tasks_with).collect();
-    if !counts.is_empty() && rng.once_in(2) {
-        let (tasks, cores) = rng.pick(&counts);
-        let places = Places { tasks, cores };
-        (bytes[5], bytes[6], bytes[7]) = (tasks as u8, cores as u8, 0);
-        (0..tasks).for_each(|position| bytes[places.task(position) + 5] = 0);
-        (0..cores).for_each(|core| bytes[places.core(core) + 3] = 0);
-    }
-    bytes
+    random_of_version(rng, length, 2)
 }
 
 const OWN_DAMAGES: usize = 14;
@@ -79,7 +60,7 @@ const OWN_DAMAGES: usize = 14;
 pub const GROUPED_DAMAGES: usize = OWN_DAMAGES + SHEET_DAMAGES;
 
 /// A version 2 sheet with one kind of damage, which may leave it in order: of
-/// what version 2 adds, or of what both versions have. A sheet without the
+/// what version 2 adds, or of what all versions have. A sheet without the
 /// field in question gets a random byte.
 pub fn damaged_grouped(rng: &mut Rng, sheet: &[u8], kind: usize) -> Vec<u8> {
     if kind >= OWN_DAMAGES {
@@ -157,11 +138,7 @@ fn damage(rng: &mut Rng, bytes: &mut Vec<u8>, kind: usize) -> bool {
             bytes[6] = 0;
         }
         11 => {
-            let at = match rng.index(1 + n + c) {
-                0 => 7,
-                k if k <= n => places.task(k - 1) + 5,
-                k => places.core(k - n - 1) + 3,
-            };
+            let at = rng.pick(&places.spares(2));
             bytes[at] = rng.pick(&[1, 128, 255]);
         }
         // the same fault twice, so that the order of the places tells

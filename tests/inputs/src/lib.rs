@@ -6,6 +6,7 @@ mod grouped;
 mod jobs;
 mod rng;
 mod sheets;
+mod strokes;
 
 pub use calls::{any_number, random_call, Call};
 pub use cores::{any_core, foreign_core, pending_states, CORE_DAMAGES};
@@ -17,4 +18,8 @@ pub use rng::Rng;
 pub use sheets::{
     damaged_sheet, handmade_sheet, likely_sheet, longest_sheet, planned_sheet, random_bytes,
     SHEET_DAMAGES,
+};
+pub use strokes::{
+    damaged_strokes, likely_strokes, random_strokes, stroke_sheet, with_short_strokes,
+    with_strokes, STROKE_DAMAGES,
 };

@@ -17,6 +17,32 @@ pub fn random_bytes(rng: &mut Rng, length: usize) -> Vec<u8> {
     bytes
 }
 
+/// Random bytes that begin like a sheet of this version; every second time with
+/// counts that give their length, where there are such, and zeros as spare
+/// bytes.
+pub(crate) fn random_of_version(rng: &mut Rng, length: usize, version: u8) -> Vec<u8> {
+    let mut bytes: Vec<u8> = (0..length).map(|_| rng.byte()).collect();
+    if length < 8 {
+        return bytes;
+    }
+    bytes[..5].copy_from_slice(&[b'T', b'S', b'H', version, 0]);
+    bytes[5] &= 127;
+    bytes[6] &= 15;
+    let tasks_with = |cores: usize| {
+        let rest = (length - 8).checked_sub(8 * cores)?;
+        rest.is_multiple_of(10).then_some((rest / 10, cores))
+    };
+    let counts: Vec<(usize, usize)> = (0..=8).filter_map(tasks_with).collect();
+    if !counts.is_empty() && rng.once_in(2) {
+        let (tasks, cores) = rng.pick(&counts);
+        (bytes[5], bytes[6]) = (tasks as u8, cores as u8);
+        for at in (Places { tasks, cores }).spares(version) {
+            bytes[at] = 0;
+        }
+    }
+    bytes
+}
+
 /// A sheet that the reference planner makes of random jobs.
 pub fn planned_sheet(rng: &mut Rng) -> Vec<u8> {
     let mut most = 64;
@@ -59,6 +85,7 @@ pub fn longest_sheet(rng: &mut Rng) -> Vec<u8> {
             period: rng.range(64, longest),
             budget: 1,
             core: i % 8,
+            stroke: 1,
             factor: 1,
         })
         .collect();
@@ -113,6 +140,7 @@ fn handmade_core(rng: &mut Rng, count: u64) -> (CoreRecord, Vec<TaskRecord>) {
             period,
             budget: 1,
             core: 0,
+            stroke: 1,
             factor,
         });
         let step = match rng.below(8) {
@@ -185,6 +213,7 @@ pub fn likely_sheet(rng: &mut Rng) -> Vec<u8> {
             period,
             budget: rng.range(1, period),
             core: rng.below(cores.max(1)) as usize,
+            stroke: 1,
             factor: rng.range(1, largest),
         }
     };
@@ -231,6 +260,19 @@ impl Places {
     pub(crate) fn core(&self, number: usize) -> usize {
         8 + 10 * self.tasks + 8 * number
     }
+
+    /// The offsets of the spare bytes in this version.
+    pub(crate) fn spares(&self, version: u8) -> Vec<usize> {
+        let mut spares = vec![7];
+        if version != 3 {
+            spares.extend((0..self.tasks).map(|number| self.task(number) + 5));
+        }
+        let in_core: &[usize] = if version == 2 { &[3] } else { &[2, 3] };
+        for number in 0..self.cores {
+            spares.extend(in_core.iter().map(|at| self.core(number) + at));
+        }
+        spares
+    }
 }
 
 /// Do the damage; false where the sheet has no such field.
@@ -254,7 +296,7 @@ fn damage(rng: &mut Rng, bytes: &mut Vec<u8>, kind: usize) -> bool {
         // header
         0 => bytes.truncate(rng.index(8)),
         1 => bytes[rng.index(3)] ^= 1 << rng.below(8),
-        2 => bytes[3 + rng.index(2)] = rng.pick(&[0, 1, 2, 3, 255]),
+        2 => bytes[3 + rng.index(2)] = rng.pick(&[0, 1, 2, 3, 4, 255]),
         3 => bytes[5] = rng.pick(&[64, 65, 128, 255]),
         4 => bytes[6] = rng.pick(&[8, 9, 128, 255]),
         5 => {
@@ -265,12 +307,7 @@ fn damage(rng: &mut Rng, bytes: &mut Vec<u8>, kind: usize) -> bool {
         7 => bytes.extend((0..rng.pick(&[1, 8, 10, 100])).map(|_| 0)),
         8 => {
             for _ in 0..rng.range(1, 2) {
-                let spares = 1 + n + 2 * c;
-                let at = match rng.index(spares) {
-                    0 => 7,
-                    k if k <= n => places.task(k - 1) + 5,
-                    k => places.core((k - n - 1) / 2) + 2 + (k - n - 1) % 2,
-                };
+                let at = rng.pick(&places.spares(1));
                 bytes[at] = rng.pick(&[1, 128, 255]);
             }
         }

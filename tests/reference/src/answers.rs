@@ -84,6 +84,8 @@ pub struct Task {
     pub age: u16,
     pub left: u16,
     pub number: u8,
+    /// The stroke length q.
+    pub stroke: u8,
 }
 
 /// The state of a core. Any values of its fields are a state.
@@ -92,6 +94,10 @@ pub struct Task {
 pub struct Core {
     pub count: u64,
     pub tasks: [Task; 64],
+    /// The number of the task in its stroke and the ticks left to the stroke,
+    /// both 0 for none.
+    pub stroke_task: u8,
+    pub stroke_left: u8,
 }
 
 impl Core {
@@ -104,7 +110,10 @@ impl Core {
             age: 0,
             left: 0,
             number: 0,
+            stroke: 0,
         }; 64],
+        stroke_task: 0,
+        stroke_left: 0,
     };
 
     /// The tasks in use, for a count in range.
@@ -168,19 +177,26 @@ impl fmt::Debug for Task {
     fn fmt(&self, f: &mut fmt::Formatter<'_>) -> fmt::Result {
         write!(
             f,
-            "#{} p{} e{} age{} left{}",
-            self.number, self.period, self.budget, self.age, self.left
+            "#{} p{} e{} q{} age{} left{}",
+            self.number, self.period, self.budget, self.stroke, self.age, self.left
         )
     }
 }
 
-/// All places up to the last one that is not zero.
+/// The stroke, and all places up to the last one that is not zero.
 impl fmt::Debug for Core {
     fn fmt(&self, f: &mut fmt::Formatter<'_>) -> fmt::Result {
         let shown = (0..64)
             .rev()
             .find(|&i| self.tasks[i] != Task::default())
             .map_or(0, |last| last + 1);
-        write!(f, "count {} {:?}", self.count, &self.tasks[..shown])
+        write!(
+            f,
+            "count {} stroke #{} left{} {:?}",
+            self.count,
+            self.stroke_task,
+            self.stroke_left,
+            &self.tasks[..shown]
+        )
     }
 }

@@ -1,5 +1,5 @@
-//! Rules 1 to 14, and 23 between 8 and 9, each over the whole sheet before the
-//! next.
+//! Rules 1 to 14, and between 8 and 9 rule 23 of version 2 and rule 25 of
+//! version 3, each over the whole sheet before the next.
 
 use crate::sheet::{is_spare, length, version, Grouping, Sheet, TaskRecord};
 use crate::{
@@ -18,13 +18,18 @@ pub fn check(bytes: &[u8]) -> CheckAnswer {
     }
 }
 
-/// The figures of an accepted sheet of either version, or the first refusal
-/// that applies.
+/// The figures of an accepted sheet of any version, or the first refusal that
+/// applies.
 pub fn accept(bytes: &[u8]) -> Outcome<Sheet> {
+    accept_versions(&[1, 2, 3], bytes)
+}
+
+/// The same where rule 3 lets only these versions through.
+pub fn accept_versions(versions: &[u64], bytes: &[u8]) -> Outcome<Sheet> {
     refuse_if(1, bytes.len() < 8)?;
     refuse_if(2, !bytes.starts_with(b"TSH"))?;
     let version = version(bytes);
-    refuse_if(3, version != 1 && version != 2)?;
+    refuse_if(3, !versions.contains(&version))?;
     let (n, c) = (bytes[5] as usize, bytes[6] as usize);
     refuse_if(4, n > MOST_TASKS || c > MOST_CORES)?;
     refuse_if(5, bytes.len() != length(n, c))?;
@@ -38,23 +43,28 @@ pub fn accept(bytes: &[u8]) -> Outcome<Sheet> {
         8,
         first_task(&|task| !(1..=task.period).contains(&task.budget)),
     )?;
-    if version == 1 {
-        refuse_at(9, first_task(&|task| task.core >= c))?;
-        fits(&sheet)?;
-        Ok(sheet)
-    } else {
+    // the strokes of versions 1 and 2 are 1, which no budget is below
+    refuse_at(
+        25,
+        first_task(&|task| !(1..=task.budget).contains(&task.stroke)),
+    )?;
+    if version == 2 {
         let grouping = Grouping::read(bytes, n, c);
         refuse_if(23, !in_order(&sheet, &grouping))?;
         let positions = by_position(sheet, &grouping);
         fits(&positions)?;
         Ok(by_number(positions, &grouping))
+    } else {
+        refuse_at(9, first_task(&|task| task.core >= c))?;
+        fits(&sheet)?;
+        Ok(sheet)
     }
 }
 
-/// Rules 10 to 14, for tasks whose cores are there: of version 1 the tasks by
-/// number, of version 2 the tasks by position. These rise on each core in the
-/// period and among equal periods in the old number, so that both are sorted
-/// alike.
+/// Rules 10 to 14, for tasks whose cores are there: of versions 1 and 3 the
+/// tasks by number, of version 2 the tasks by position. These rise on each core
+/// in the period and among equal periods in the old number, so that both are
+/// sorted alike.
 fn fits(sheet: &Sheet) -> Outcome<()> {
     let (tasks, cores) = (&sheet.tasks, &sheet.cores);
     let first_task = |broken: &dyn Fn(usize) -> bool| (0..tasks.len()).find(|&i| broken(i));
@@ -71,7 +81,7 @@ fn fits(sheet: &Sheet) -> Outcome<()> {
         first_task(&|i| sheet.accelerated(i) > Fraction::whole(tasks[i].period as u128)),
     )?;
     refuse_at(13, (0..cores.len()).find_map(|k| broken_chain(sheet, k)))?;
-    refuse_at(14, first_core(&|k| sheet.load(k) > Fraction::whole(1)))
+    refuse_at(14, first_core(&|k| !sheet.has_room(k)))
 }
 
 /// Rule 23, of records by position: each old number once, counts that add up,

@@ -28,7 +28,7 @@ pub fn list_into(sheet: &[u8], out: &mut [u8]) -> ListAnswer {
     }
 }
 
-/// The tasks by number, in either version.
+/// The tasks by number, in every version; no stroke lengths.
 fn text(version: u64, sheet: &Sheet) -> String {
     let (n, c) = (sheet.tasks.len(), sheet.cores.len());
     let mut text = format!("TSH {version} tasks {n} cores {c}\n");

@@ -89,6 +89,7 @@ fn written(rounds: &[Round], jobs: &[Job], cores: &[Vec<usize>]) -> Sheet {
         period: jobs[i].period,
         budget: jobs[i].budget,
         core: homes[i],
+        stroke: 1,
         factor: factors[i],
     };
     Sheet {

@@ -1,4 +1,4 @@
-//! The sheet's layout in both versions, and its figures.
+//! The sheet's layout in its three versions, and its figures.
 
 use crate::Fraction;
 
@@ -13,6 +13,8 @@ pub struct TaskRecord {
     pub period: u64,
     pub budget: u64,
     pub core: usize,
+    /// The stroke length q, which is 1 in versions 1 and 2.
+    pub stroke: u64,
     pub factor: u64,
 }
 
@@ -61,11 +63,12 @@ pub fn is_spare(version: u64, offset: usize, tasks: usize) -> bool {
     if offset < HEADER {
         offset == 7
     } else if offset < cores_at {
-        (offset - HEADER) % TASK_RECORD == 5
+        // the stroke length of a version 3 task
+        (offset - HEADER) % TASK_RECORD == 5 && version != 3
     } else {
         match (offset - cores_at) % CORE_RECORD {
             // the count of a version 2 core
-            2 => version == 1,
+            2 => version != 2,
             at => at == 3,
         }
     }
@@ -113,10 +116,15 @@ impl Grouping {
 }
 
 impl Sheet {
-    /// The figures of bytes that have the length of these counts, as version 1
-    /// reads them: byte 4 is the core.
+    /// The figures of bytes that have the length of these counts, as versions 1
+    /// and 3 read them: byte 4 is the core. Byte 5 is the stroke length in
+    /// version 3.
     pub fn read(bytes: &[u8], tasks: usize, cores: usize) -> Sheet {
         let (task_part, core_part) = parts(bytes, tasks, cores);
+        let stroke = |record: &[u8]| match version(bytes) {
+            3 => record[5] as u64,
+            _ => 1,
+        };
         Sheet {
             tasks: task_part
                 .chunks(TASK_RECORD)
@@ -124,6 +132,7 @@ impl Sheet {
                     period: number(&record[0..2]),
                     budget: number(&record[2..4]),
                     core: record[4] as usize,
+                    stroke: stroke(record),
                     factor: number(&record[6..10]),
                 })
                 .collect(),
@@ -137,11 +146,22 @@ impl Sheet {
         }
     }
 
-    /// The bytes of version 1, for figures that fit their fields.
+    /// The bytes of version 1, which has no stroke lengths, for figures that fit
+    /// their fields.
     pub fn write(&self) -> Vec<u8> {
-        let mut bytes = self.header(1);
+        self.write_with(1, |_| 0)
+    }
+
+    /// The bytes of version 3, for figures that fit their fields.
+    pub fn write_strokes(&self) -> Vec<u8> {
+        self.write_with(3, |task| task.stroke)
+    }
+
+    /// The layout of versions 1 and 3 with this byte 5 of the tasks.
+    fn write_with(&self, version: u8, byte: impl Fn(&TaskRecord) -> u64) -> Vec<u8> {
+        let mut bytes = self.header(version);
         for task in &self.tasks {
-            bytes.extend(task.write(task.core));
+            bytes.extend(task.write(task.core, byte(task)));
         }
         for core in &self.cores {
             bytes.extend(core.write(0));
@@ -149,13 +169,13 @@ impl Sheet {
         bytes
     }
 
-    /// The bytes of version 2, for figures that fit their fields and cores that
-    /// are there.
+    /// The bytes of version 2, which has no stroke lengths, for figures that fit
+    /// their fields and cores that are there.
     pub fn write_grouped(&self) -> Vec<u8> {
         let Grouping { numbers, counts } = Grouping::of(self);
         let mut bytes = self.header(2);
         for number in numbers {
-            bytes.extend(self.tasks[number].write(number));
+            bytes.extend(self.tasks[number].write(number, 0));
         }
         for (core, count) in self.cores.iter().zip(counts) {
             bytes.extend(core.write(count));
@@ -192,6 +212,40 @@ impl Sheet {
         self.accelerated(task).floor() as u64
     }
 
+    /// B of a task: the largest q - 1 among the tasks below it in priority on
+    /// its core, or 0 if there are none.
+    pub fn blocking(&self, task: usize) -> u64 {
+        let order = self.by_priority(self.tasks[task].core);
+        let place = order.iter().position(|&other| other == task);
+        self.longest_of(&order[place.expect("the task is on its core") + 1..])
+    }
+
+    /// The largest q - 1 among these tasks, or 0 if there are none.
+    fn longest_of(&self, tasks: &[usize]) -> u64 {
+        let longest = tasks.iter().map(|&task| self.tasks[task].stroke - 1).max();
+        longest.unwrap_or(0)
+    }
+
+    /// Whether a core has room for each of its tasks, if their factors form a
+    /// chain: the sum of e * D * (M of the task / M of the other) over it and
+    /// those above it, plus B * D, is at most Q * M.
+    pub fn has_room(&self, core: usize) -> bool {
+        let order = self.by_priority(core);
+        let CoreRecord { pivot, divisor } = self.cores[core];
+        let has_room = |place: usize| {
+            let factor = self.tasks[order[place]].factor;
+            let demand = |&other: &usize| {
+                let other = self.tasks[other];
+                assert_eq!(factor % other.factor, 0);
+                other.budget as u128 * divisor as u128 * (factor / other.factor) as u128
+            };
+            let demands: u128 = order[..=place].iter().map(demand).sum();
+            let blocking = self.longest_of(&order[place + 1..]);
+            demands + blocking as u128 * divisor as u128 <= pivot as u128 * factor as u128
+        };
+        (0..order.len()).all(has_room)
+    }
+
     /// The load of a core whose factors form a chain.
     pub fn load(&self, core: usize) -> Fraction {
         let tasks: Vec<(u64, u64)> = self
@@ -204,11 +258,12 @@ impl Sheet {
 }
 
 impl TaskRecord {
-    /// The record with this byte 4: the core or the old number.
-    fn write(&self, byte: usize) -> Vec<u8> {
+    /// The record with this byte 4, the core or the old number, and this byte 5,
+    /// 0 or the stroke length.
+    fn write(&self, place: usize, stroke: u64) -> Vec<u8> {
         let mut record = (self.period as u16).to_le_bytes().to_vec();
         record.extend((self.budget as u16).to_le_bytes());
-        record.extend([byte as u8, 0]);
+        record.extend([place as u8, stroke as u8]);
         record.extend((self.factor as u32).to_le_bytes());
         record
     }

@@ -15,6 +15,7 @@ fn sheet_b(budget: u64, factor: u64) -> Vec<u8> {
         period,
         budget,
         core: 0,
+        stroke: 1,
         factor,
     };
     Sheet {
@@ -121,6 +122,7 @@ fn listed_load(period: u64, budget: u64) -> String {
             period,
             budget,
             core: 0,
+            stroke: 1,
             factor: 1,
         }],
         cores: vec![CoreRecord {

@@ -8,6 +8,7 @@ fn sheet(tasks: &[(u64, u64, usize, u64)], cores: &[(u64, u64)]) -> Sheet {
         period,
         budget,
         core,
+        stroke: 1,
         factor,
     };
     let core = |&(pivot, divisor): &(u64, u64)| CoreRecord { pivot, divisor };
@@ -188,11 +189,13 @@ fn starts_by_old_numbers() {
 fn versions() {
     for (low, high, refused) in [
         (0, 0, 3),
-        (3, 0, 3),
+        (4, 0, 3),
         (2, 1, 3),
         (1, 1, 3),
         (2, 2, 3),
         (0, 2, 3),
+        (3, 3, 3),
+        (0, 3, 3),
     ] {
         let mut bytes = MIXED_GROUPED;
         (bytes[3], bytes[4]) = (low, high);

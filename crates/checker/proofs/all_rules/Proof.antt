@@ -9,6 +9,7 @@ use Rattle.checker.proofs.frame.spare_rules.Reads as spare-rules-reads
 use Rattle.checker.proofs.record_rules.Reads as record-rules-reads
 use Rattle.sheet.proofs.byte.Reads as byte-reads
 use Rattle.sheet.proofs.is_grouped.Reads as is-grouped-reads
+use Rattle.sheet.proofs.is_stroked.Reads as is-stroked-reads
 
 framing-requires : tie.Need-framing-requires
 framing-requires c κs = search needs
@@ -30,6 +31,9 @@ byte-requires-2 c κs = search needs
 
 is-grouped-requires : tie.Need-is-grouped-requires
 is-grouped-requires c κs = search needs
+
+is-stroked-requires : tie.Need-is-stroked-requires
+is-stroked-requires c κs = search needs
 
 sub-records : tie.Need-sub-records
 sub-records c = search (records-long, needs)
@@ -69,6 +73,7 @@ all-rules-spec =
     byte-requires
     byte-requires-2
     is-grouped-requires
+    is-stroked-requires
     sub-records
     part-records-start
     part-records-end

@@ -53,7 +53,7 @@ slice-aggregate-fit-rules c = search needs
 fit-rules-requires : tie.Need-fit-rules-requires
 fit-rules-requires c κs =
     let a = c .before .before .before .before .before .before .before .before .before .before .args in
-    part-ready (a .grouped) (a .records .now) _ _ (a .n) (a .c) (part (a .records .now) (10 * a .n)) (c .before .before .before .before .before .before .before .before .before .before .pre .0) (c .before .before .before .before .before .before .before .cores-of .ensures) _ (c .before .before .before .before .before .is-misordered .ensures) _ (c .before .before .before .early-rules .ensures) (c .before .enum-told2 .given .1)
+    part-ready (a .grouped) (a .stroked) (a .records .now) _ _ (a .n) (a .c) (part (a .records .now) (10 * a .n)) (c .before .before .before .before .before .before .before .before .before .before .pre .0) (c .before .before .before .before .before .before .before .cores-of .ensures) _ (c .before .before .before .before .before .is-misordered .ensures) _ (c .before .before .before .early-rules .ensures) (c .before .enum-told2 .given .1)
 
 returns-2 : tie.Need-returns-2
 returns-2 c = search (part-fits, part)

@@ -1,5 +1,5 @@
-use borrow.Author.Needs.{needs}
 use Rattle.dispatcher.proofs.Starting.{fresh-read}
+use borrow.Author.Needs.{needs}
 use Rattle.dispatcher.proofs.fresh_at.Statement.{statement}
 use Rattle.dispatcher.proofs.fresh_at.Tie as tie
 use Rattle.dispatcher.proofs.fresh_at.Reads as reads

@@ -1,6 +1,6 @@
-use borrow.Author.Needs.{needs}
 use Rattle.fit.proofs.Lists.{part}
 use Rattle.dispatcher.proofs.Starting.{fresh-core}
+use borrow.Author.Needs.{needs}
 use Rattle.dispatcher.proofs.of_core.Statement.{statement}
 use Rattle.dispatcher.proofs.of_core.Tie as tie
 use Rattle.dispatcher.proofs.of_core.Reads as reads

@@ -1,5 +1,5 @@
-use borrow.Author.Needs.{needs}
 use Rattle.dispatcher.proofs.Starting.{fresh-list}
+use borrow.Author.Needs.{needs}
 use Rattle.dispatcher.proofs.of_list.Statement.{statement}
 use Rattle.dispatcher.proofs.of_list.Tie as tie
 use Rattle.dispatcher.proofs.of_list.Reads as reads

@@ -9,6 +9,7 @@ use Rattle.dispatcher.proofs.empty.Reads as empty-reads
 use Rattle.dispatcher.proofs.of_core.Reads as of-core-reads
 use Rattle.dispatcher.proofs.refuse.Reads as refuse-reads
 use Rattle.sheet.proofs.is_grouped.Reads as is-grouped-reads
+use Rattle.sheet.proofs.is_stroked.Reads as is-stroked-reads
 
 check-requires : tie.Need-check-requires
 check-requires c κs = search needs
@@ -39,6 +40,9 @@ returns c = (search (sheet-no-core, needs), search (refused-timely, needs))
 
 is-grouped-requires : tie.Need-is-grouped-requires
 is-grouped-requires c κs = search needs
+
+is-stroked-requires : tie.Need-is-stroked-requires
+is-stroked-requires c κs = search needs
 
 sub-of-core : tie.Need-sub-of-core
 sub-of-core c = search (sheet-header, needs)
@@ -75,6 +79,7 @@ start-sheet-spec =
     refuse-requires-2
     returns
     is-grouped-requires
+    is-stroked-requires
     sub-of-core
     part-of-core-start
     part-of-core-end

@@ -5,7 +5,7 @@ use lib.ListN.{length}
 use Rattle.sheet.specs.Records.{figuresWith}
 use Rattle.fit.specs.Lists.{numbers, at as column, joined}
 use Rattle.listing.specs.Listing.{coreLine}
-use Rattle.listing.specs.Steps.{Capped}
+use Rattle.listing.specs.Steps.{Capped, oneTick}
 use Rattle.listing.proofs.Lines.{lines-start, lines-turn, lines-end}
 use Rattle.listing.proofs.put_cores.Statement.{statement}
 use Rattle.listing.proofs.put_cores.Tie as tie
@@ -14,7 +14,7 @@ use Rattle.listing.proofs.put_cores.Lts as lts
 use Rattle.listing.proofs.put_core.Reads as put-core-reads
 
 abbrev Inv-loop : tie.InvT-loop
-Inv-loop out₀ at periods tasks cores on n c next₀ k₀ out next k = (k ≤ c) × (length out ≡ length out₀) × Capped (76 * k) out₀ at (joined (coreLine (figuresWith (column on) n c tasks cores)) (numbers 0 k)) out next
+Inv-loop out₀ at periods tasks cores on n c next₀ k₀ out next k = (k ≤ c) × (length out ≡ length out₀) × Capped (76 * k) out₀ at (joined (coreLine (figuresWith (column on) oneTick n c tasks cores)) (numbers 0 k)) out next
 
 abbrev μ-loop : tie.MeasureT-loop
 μ-loop out₀ at periods tasks cores on n c next₀ k₀ out next k = c - k

@@ -7,7 +7,7 @@ use Rattle.sheet.specs.Records.{figuresWith}
 use Rattle.sheet.specs.Views.{renumbered}
 use Rattle.fit.specs.Lists.{numbers, at as column, joined}
 use Rattle.listing.specs.Listing.{taskLine}
-use Rattle.listing.specs.Steps.{Capped}
+use Rattle.listing.specs.Steps.{Capped, oneTick}
 use Rattle.listing.proofs.Lines.{lines-start, lines-end, tasks-turn, task-inside}
 use Rattle.listing.proofs.put_tasks.Statement.{statement}
 use Rattle.listing.proofs.put_tasks.Tie as tie
@@ -17,7 +17,7 @@ use Rattle.listing.proofs.put_task.Reads as put-task-reads
 use Rattle.sheet.proofs.byte.Reads as byte-reads
 
 abbrev Inv-loop : tie.InvT-loop
-Inv-loop out₀ at tasks cores on positions n c next₀ i₀ out next i = (i ≤ n) × (length out ≡ length out₀) × Capped (114 * i) out₀ at (joined (taskLine (renumbered (column positions) (figuresWith (column on) n c tasks cores))) (numbers 0 i)) out next
+Inv-loop out₀ at tasks cores on positions n c next₀ i₀ out next i = (i ≤ n) × (length out ≡ length out₀) × Capped (114 * i) out₀ at (joined (taskLine (renumbered (column positions) (figuresWith (column on) oneTick n c tasks cores))) (numbers 0 i)) out next
 
 abbrev μ-loop : tie.MeasureT-loop
 μ-loop out₀ at tasks cores on positions n c next₀ i₀ out next i = n - i

@@ -15,14 +15,14 @@ slice-aggregate-move-sheet c = search needs
 move-sheet-requires : tie.Need-move-sheet-requires
 move-sheet-requires c κs = search needs
 
-enum-told : tie.Need-enum-told
-enum-told c = search needs
+enum-known-moved : tie.Need-enum-known-moved
+enum-known-moved c = search needs
 
 say-refused-requires : tie.Need-say-refused-requires
 say-refused-requires c κs = search needs
 
-enum-known-moved : tie.Need-enum-known-moved
-enum-known-moved c = search needs
+enum-known-moved-2 : tie.Need-enum-known-moved-2
+enum-known-moved-2 c = search needs
 
 cast-end : tie.Need-cast-end
 cast-end c = search needs
@@ -57,9 +57,9 @@ write-moved-spec =
     (tie.spec
     slice-aggregate-move-sheet
     move-sheet-requires
-    enum-told
-    say-refused-requires
     enum-known-moved
+    say-refused-requires
+    enum-known-moved-2
     cast-end
     array-share-prefix-out
     slice-aggregate-write-all

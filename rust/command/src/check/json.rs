@@ -48,7 +48,7 @@ pub fn add_sheet(text: &mut String, path: &Path, verdict: &Verdict) {
                 None => text.push_str("null"),
             }
             text.push_str(",\"text\":");
-            add_string(text, refusal.word.text());
+            add_string(text, wording::text(*refusal, bytes));
             text.push('}');
         }
         Verdict::NotRead(why) => {

@@ -237,9 +237,19 @@ fn number(call: Call) -> Option<u8> {
     }
 }
 
-/// Period, budget and within of a task, such as `p 9 e 7 w 9`.
+/// Period, budget and within of a task, such as `p 9 e 7 w 9`, and ` q 4` behind it for strokes of more than one tick.
 pub fn figures(task: &Task) -> String {
-    format!("p {} e {} w {}", task.period, task.budget, task.within)
+    let figures = format!("p {} e {} w {}", task.period, task.budget, task.within);
+    match task.stroke {
+        0 | 1 => figures,
+        stroke => format!("{figures} q {stroke}"),
+    }
+}
+
+/// Whether some stroke has more than one tick.
+pub fn has_strokes(logs: &[Log]) -> bool {
+    let mut tasks = logs.iter().flat_map(|log| &log.tasks);
+    tasks.any(|task| task.stroke > 1)
 }
 
 #[cfg(test)]
@@ -259,6 +269,7 @@ mod tests {
         for refusal in [17, 18, 19, 20, 21] {
             assert!(marks().any(|mark| mark.3 == refusal), "{refusal}");
         }
+        assert!(has_strokes(&logs));
         let at_once = |truth: &Truth| truth.marks.values().any(|&count| count > 1);
         assert!(truths.iter().any(at_once));
     }

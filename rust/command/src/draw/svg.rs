@@ -10,7 +10,7 @@ mod tests;
 
 use std::fmt::Write as _;
 
-use super::rows::Chart;
+use super::rows::{has_strokes, Chart};
 use crate::log::{Log, Origin};
 use band::BandDrawing;
 use layout::{Layout, MARGIN};
@@ -24,7 +24,7 @@ const HEADING: usize = 10;
 pub fn svg(logs: &[Log]) -> String {
     let layout = Layout::of(logs);
     let mut body = String::new();
-    let mut y = legend::draw(&mut body, MARGIN);
+    let mut y = legend::draw(&mut body, MARGIN, has_strokes(logs));
     let mut headings = Vec::new();
     for log in logs {
         let core = Chart::of(log);

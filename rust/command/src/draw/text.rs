@@ -4,7 +4,7 @@ mod flow;
 #[cfg(test)]
 mod tests;
 
-use super::rows::{figures, Cell, Chart, Row, What, OTHER};
+use super::rows::{figures, has_strokes, Cell, Chart, Row, What, OTHER};
 use crate::log::Log;
 use flow::{flow, legend};
 
@@ -24,7 +24,8 @@ pub fn text(logs: &[Log], width: usize) -> String {
         lines.extend(flow("", chart.heading().split(' '), " ", width));
         columns.chart(&mut lines, &chart);
     }
-    lines.extend(legend(columns.figures, width));
+    let strokes = has_strokes(logs);
+    lines.extend(legend(columns.figures, strokes, width));
     lines
         .iter()
         .map(|line| format!("{}\n", line.trim_end()))

@@ -2,7 +2,7 @@
 //! says.
 
 use super::rules::{Fault, MOST_CORES, MOST_TASKS};
-use crate::fields::{Fields, Layout, CORE_SIZE, HEADER_SIZE, TASK_SIZE};
+use crate::fields::{Fields, Layout, Version, CORE_SIZE, HEADER_SIZE, TASK_SIZE};
 use crate::list::FRONT;
 
 #[derive(Clone, Debug, PartialEq, Eq)]
@@ -19,7 +19,7 @@ pub enum Guess {
 }
 
 pub fn guess(fields: &Fields, fault: &Fault) -> Guess {
-    if let Fault::Version { found: 3..=255 } = fault {
+    if let Fault::Version { found: 4..=255 } = fault {
         return Guess::Nothing; // it may be a newer version, whose bytes say something else
     }
     if let Some(layout) = with_other_header(fields) {
@@ -86,17 +86,20 @@ pub fn is_in_range(layout: Layout) -> bool {
 /// A layout with whose header the sheet would be accepted.
 fn with_other_header(fields: &Fields) -> Option<Layout> {
     let records = front(fields).get(HEADER_SIZE..)?;
-    let both_versions = |layout: Layout| {
-        let grouped = !layout.grouped;
-        [layout, Layout { grouped, ..layout }]
+    let every_version = |layout: Layout| {
+        let others = Version::ALL.into_iter();
+        let others = others.filter(move |version| *version != layout.version);
+        let others = others.map(move |version| Layout { version, ..layout });
+        std::iter::once(layout).chain(others)
     };
-    let mut layouts = of_this_length(fields).into_iter().flat_map(both_versions);
+    let mut layouts = of_this_length(fields).into_iter().flat_map(every_version);
     layouts.find(|layout| is_accepted(Some(&[&header(*layout), records].concat())))
 }
 
 fn header(layout: Layout) -> [u8; HEADER_SIZE] {
     let Layout { tasks, cores, .. } = layout;
-    [b'T', b'S', b'H', layout.version(), 0, tasks, cores, 0]
+    let version = layout.version.number();
+    [b'T', b'S', b'H', version, 0, tasks, cores, 0]
 }
 
 /// The layout by which the records of a refused sheet are shown: one with which it would be accepted; else the header's, but where a count
@@ -135,7 +138,7 @@ fn as_far_as_they_go(fields: &Fields) -> Layout {
 #[cfg(test)]
 mod tests {
     use super::super::rules::fault;
-    use super::super::samples::{changed, Rng, FULL, GROUPED};
+    use super::super::samples::{changed, Rng, FULL, GROUPED, STROKED};
     use super::*;
 
     /// The guess of bytes that are refused.
@@ -154,7 +157,7 @@ mod tests {
             let at = rng.range(0, 7) as usize;
             let bytes = changed(&sheet, &[(at, rng.range(0, 255) as u8)]);
             if homvaits::check(&sheet).is_ok() && layout.tasks > 0 && bytes != sheet {
-                let expected = match at == 3 && bytes[3] > 2 {
+                let expected = match at == 3 && bytes[3] > 3 {
                     true => Guess::Nothing,
                     false => Guess::Header(layout),
                 };
@@ -179,9 +182,19 @@ mod tests {
         assert_eq!(of(&FULL[..35]), Some(Guess::Counts(Vec::new())));
         assert_eq!(of(&changed(&FULL, &[(13, 1)])), Some(Guess::Spare));
         assert_eq!(
-            of(&changed(&FULL, &[(13, 1), (23, 1)])),
+            of(&changed(&FULL, &[(7, 1), (13, 1)])),
             Some(Guess::Nothing)
         );
+        // both would be stroke lengths
+        let stroked = Layout {
+            version: Version::Strokes,
+            ..Fields::new(&FULL).layout
+        };
+        assert_eq!(
+            of(&changed(&FULL, &[(13, 1), (23, 1)])),
+            Some(Guess::Header(stroked))
+        );
+        assert_eq!(of(&changed(&STROKED, &[(23, 0)])), Some(Guess::Nothing));
         assert_eq!(of(&changed(&FULL, &[(20, 8)])), Some(Guess::Nothing));
         // a core's record is cut away: the length is that of one core, but then there is no second one
         let own = Fields::new(&GROUPED).layout;

@@ -3,7 +3,7 @@
 use super::guess::{is_in_range, Guess};
 use super::page::{hex, printable, unbroken};
 use super::rules::MOST_TASKS;
-use crate::fields::{Fields, Layout, HEADER_SIZE};
+use crate::fields::{Fields, Layout, Version, HEADER_SIZE};
 use crate::wording::{counted, joined};
 
 pub fn mark(found: [u8; 3]) -> String {
@@ -16,14 +16,14 @@ pub fn mark(found: [u8; 3]) -> String {
 
 pub fn version(found: u16) -> String {
     let swapped = match found.swap_bytes() {
-        version @ (1 | 2) => format!(
+        version @ 1..=3 => format!(
             " The two bytes seem to be exchanged: {} is version {version}.",
             hex(&version.to_le_bytes())
         ),
         _ => String::new(),
     };
     format!(
-        "The version is {found}, in bytes {}. Versions 1 and 2 are known here.{swapped}",
+        "The version is {found}, in bytes {}. Versions 1, 2 and 3 are known here.{swapped}",
         hex(&found.to_le_bytes())
     )
 }
@@ -83,15 +83,10 @@ fn other_header(fields: &Fields, layout: Layout) -> String {
     format!("With {differences} in its header the sheet would be accepted: it is likely that nothing else is damaged.")
 }
 
-/// Whether the version is 1 or 2.
-fn is_known(fields: &Fields) -> bool {
-    matches!(fields.version(), Some(1 | 2))
-}
-
 /// What the header of a layout has and that of the bytes has not.
 fn differences(fields: &Fields, layout: Layout) -> Vec<String> {
     let own = fields.layout;
-    let version = layout.version();
+    let version = layout.version.number();
     let tasks = counted(layout.tasks.into(), "task");
     let cores = counted(layout.cores.into(), "core");
     let differences = [
@@ -112,8 +107,8 @@ fn differences(fields: &Fields, layout: Layout) -> Vec<String> {
 pub fn reading(fields: &Fields) -> Option<String> {
     let own = Fields::new(fields.bytes).layout;
     let layout = fields.layout;
-    let version = layout.version();
-    let known = fields.mark() == Some(*b"TSH") && is_known(fields);
+    let version = layout.version.number();
+    let known = fields.mark() == Some(*b"TSH") && Version::of(fields.bytes).is_some();
     if known && own == layout || fields.bytes.len() < HEADER_SIZE || layout.length() == HEADER_SIZE
     {
         None

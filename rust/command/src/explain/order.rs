@@ -99,7 +99,7 @@ impl Disorder {
 
 /// What is not in order; none if all is.
 pub fn disorder(fields: &Fields) -> Option<Disorder> {
-    if !fields.layout.grouped {
+    if !fields.layout.is_grouped() {
         return None;
     }
     let tasks: Vec<Task> = fields.tasks().collect();

@@ -18,7 +18,7 @@ pub enum Fault {
     Stub { found: usize },
     /// Other bytes than T S H.
     Mark { found: [u8; 3] },
-    /// Another version than 1 and 2.
+    /// Another version than 1, 2 and 3.
     Version { found: u16 },
     /// More tasks or cores than there may be.
     Count { layout: Layout },
@@ -35,6 +35,8 @@ pub enum Fault {
     Period(Task),
     /// A budget that is 0 or above the period.
     Budget(Task),
+    /// A stroke length that is 0 or above the budget.
+    Stroke(Task),
     /// A version 2 sheet that is not in order.
     Order(Disorder),
     /// A task on a core that is not there.
@@ -53,7 +55,7 @@ pub enum Fault {
         tasks: Vec<Task>,
         at: usize,
     },
-    /// A load above one.
+    /// A load above one, or a task whose sum and wait are above the capacity.
     Overload(Load),
 }
 
@@ -99,7 +101,7 @@ fn front(fields: &Fields, word: Word) -> Option<Fault> {
         }
         _ => {
             let found = fields.version()?;
-            (found != 1 && found != 2).then_some(Fault::Version { found })
+            (!(1..=3).contains(&found)).then_some(Fault::Version { found })
         }
     }
 }
@@ -109,8 +111,8 @@ fn spare(fields: &Fields, offset: usize) -> Option<Fault> {
     let (part, byte) = fields.layout.part(offset)?;
     let spare = match part {
         Part::Header => byte == 7,
-        Part::Task(_) => byte == 5,
-        Part::Core(_) => byte == 3 || byte == 2 && !fields.layout.grouped,
+        Part::Task(_) => byte == 5 && !fields.layout.has_strokes(),
+        Part::Core(_) => byte == 3 || byte == 2 && !fields.layout.is_grouped(),
     };
     (spare && value != 0).then_some(Fault::Spare {
         offset,
@@ -130,6 +132,10 @@ fn at_task(fields: &Fields, word: Word, task: Task) -> Option<Fault> {
         Word::Budget => {
             let wrong = !(1..=task.period).contains(&task.budget);
             wrong.then_some(Fault::Budget(task))
+        }
+        Word::Stroke => {
+            let wrong = !(1..=task.budget).contains(&task.stroke.into());
+            (wrong && fields.layout.has_strokes()).then_some(Fault::Stroke(task))
         }
         Word::Core => {
             let core = task.core?;
@@ -187,7 +193,8 @@ fn at_core(fields: &Fields, word: Word, core: u8) -> Option<Fault> {
         }
         Word::Overload => {
             let load = fields.load(core)?;
-            (load.sum() > load.capacity).then_some(Fault::Overload(load))
+            load.first_above()?;
+            Some(Fault::Overload(load))
         }
         _ => None,
     }
@@ -217,7 +224,7 @@ pub fn named(layout: Layout, refusal: Refusal, fault: Option<&Fault>) -> Vec<usi
 #[cfg(test)]
 mod tests {
     use super::super::order::Stands;
-    use super::super::samples::{chained, changed, Rng, FULL, GROUPED};
+    use super::super::samples::{chained, changed, Rng, FULL, GROUPED, STROKED};
     use super::*;
     use homvaits::check;
 
@@ -226,7 +233,7 @@ mod tests {
         match fault {
             Fault::Stub { found } => *found < 8,
             Fault::Mark { found } => found != b"TSH",
-            Fault::Version { found } => ![1, 2].contains(found),
+            Fault::Version { found } => ![1, 2, 3].contains(found),
             Fault::Count { layout } => layout.tasks > 64 || layout.cores > 8,
             Fault::Length { layout, found } => {
                 *found != 8 + 10 * usize::from(layout.tasks) + 8 * usize::from(layout.cores)
@@ -234,6 +241,7 @@ mod tests {
             Fault::Spare { value, .. } => *value != 0,
             Fault::Period(task) => task.period == 0 || task.period > 60_000,
             Fault::Budget(task) => task.budget == 0 || task.budget > task.period,
+            Fault::Stroke(task) => task.stroke == 0 || u16::from(task.stroke) > task.budget,
             Fault::Order(disorder) => disordered(disorder),
             Fault::Core { core, cores, .. } => core >= cores,
             Fault::Bare { core, counts } => counts[usize::from(*core)] == 0,
@@ -254,15 +262,22 @@ mod tests {
         }
     }
 
-    /// The sum of e / T over the tasks is above one, where T = Q x M / D.
+    /// For one of the tasks e / T, summed up to it, and B / T of its own T are above one, where T = Q x M / D.
     fn overloaded(tasks: &[Task], core: &Core) -> bool {
-        let last = u64::from(tasks[tasks.len() - 1].factor);
-        let work = |task: &Task| {
-            let ticks = u64::from(task.budget) * u64::from(core.divisor) * last;
-            assert_eq!(ticks % u64::from(task.factor), 0);
-            ticks / u64::from(task.factor)
+        let divisor = u64::from(core.divisor);
+        let above = |place: usize| {
+            let own = u64::from(tasks[place].factor);
+            let work = |task: &Task| {
+                let ticks = u64::from(task.budget) * divisor * own;
+                assert_eq!(ticks % u64::from(task.factor), 0);
+                ticks / u64::from(task.factor)
+            };
+            let sum: u64 = tasks[..=place].iter().map(work).sum();
+            let below = tasks[place + 1..].iter().map(|task| task.stroke - 1);
+            let wait = u64::from(below.max().unwrap_or(0)) * divisor;
+            sum + wait > u64::from(core.pivot) * own
         };
-        tasks.iter().map(work).sum::<u64>() > u64::from(core.pivot) * last
+        (0..tasks.len()).any(above)
     }
 
     fn disordered(disorder: &Disorder) -> bool {
@@ -295,6 +310,8 @@ mod tests {
         assert_eq!(found(&mark, 2, 0), Fault::Mark { found: *b"tSH" });
         let version = changed(&FULL, &[(3, 0), (4, 1)]);
         assert_eq!(found(&version, 3, 0), Fault::Version { found: 256 });
+        let version = changed(&FULL, &[(3, 4)]);
+        assert_eq!(found(&version, 3, 0), Fault::Version { found: 4 });
         let counts = |bytes: &[u8]| match found(bytes, 4, 0) {
             Fault::Count { layout } => (layout.tasks, layout.cores),
             other => panic!("{other:?}"),
@@ -318,6 +335,9 @@ mod tests {
             (&FULL, 31, Part::Core(0), 3),
             (&GROUPED, 53, Part::Task(4), 5),
             (&GROUPED, 69, Part::Core(1), 3),
+            (&STROKED, 7, Part::Header, 7),
+            (&STROKED, 30, Part::Core(0), 2),
+            (&STROKED, 31, Part::Core(0), 3),
         ] {
             let fault = found(&changed(bytes, &[(offset, 0xA5)]), 6, offset as u64);
             let expected = Fault::Spare {
@@ -347,6 +367,22 @@ mod tests {
             let fault = found(&changed(&FULL, &[(20, budget)]), 8, 1);
             assert!(matches!(fault, Fault::Budget(task) if task.budget == budget.into()));
         }
+    }
+
+    #[test]
+    fn strokes() {
+        for stroke in [0, 8, 255] {
+            let fault = found(&changed(&STROKED, &[(23, stroke)]), 25, 1);
+            assert!(matches!(fault, Fault::Stroke(task) if task.stroke == stroke));
+        }
+        found(&changed(&STROKED, &[(13, 0), (23, 0)]), 25, 0);
+        let Fault::Overload(load) = found(&changed(&STROKED, &[(23, 5)]), 14, 64) else {
+            panic!("another fault");
+        };
+        let first = load.first_above().unwrap();
+        assert_eq!((first.task.number, first.blocking), (0, 4));
+        assert_eq!((first.sum, first.wait, load.capacity), (4, 16, 18));
+        assert_eq!((load.sum(), load.thousandths()), (18, Some(1000)));
     }
 
     #[test]
@@ -469,6 +505,7 @@ mod tests {
             (Word::Spare, &bytes),
             (Word::Period, &tasks),
             (Word::Budget, &tasks),
+            (Word::Stroke, &tasks),
             (Word::Order, &whole),
             (Word::Core, &tasks),
             (Word::Bare, &cores),
@@ -495,7 +532,7 @@ mod tests {
     #[test]
     fn the_numbers_break_the_rule_that_the_library_names_and_none_before_it() {
         let mut rng = Rng(1);
-        let mut seen = [0; 24];
+        let mut seen = [0; 26];
         for turn in 0..6000 {
             let bytes = match turn % 10 {
                 0 => rng.sheet(),
@@ -511,7 +548,7 @@ mod tests {
             seen[verdict.map_or(0, |refusal| usize::from(refusal.number()))] += 1;
         }
         let never = |number: &usize| seen[*number] == 0;
-        assert!((0..24).filter(never).eq(15..=22), "{seen:?}");
+        assert!((0..26).filter(never).eq((15..=22).chain([24])), "{seen:?}");
     }
 
     #[test]

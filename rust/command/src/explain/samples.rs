@@ -24,6 +24,14 @@ pub const GROUPED: [u8; 74] = [
     9, 0, 2, 0, 2, 0, 0, 0, // core 1
 ];
 
+/// Section 14: the two tasks of section 10 in version 3, the second in strokes of 4 ticks.
+pub const STROKED: [u8; 36] = [
+    b'T', b'S', b'H', 3, 0, 2, 1, 0, // header
+    5, 0, 1, 0, 0, 1, 1, 0, 0, 0, // task 0
+    9, 0, 7, 0, 0, 4, 2, 0, 0, 0, // task 1
+    9, 0, 0, 0, 2, 0, 0, 0, // core 0
+];
+
 /// Bytes with some of them changed.
 pub fn changed(bytes: &[u8], changes: &[(usize, u8)]) -> Vec<u8> {
     let mut bytes = bytes.to_vec();
@@ -100,7 +108,7 @@ impl Rng {
         }
     }
 
-    /// A planned or made sheet of either version, most of them accepted.
+    /// A planned or made sheet of any version, most of them accepted.
     pub fn sheet(&mut self) -> Vec<u8> {
         let jobs = self.jobs();
         let start = self.range(0, jobs.len().saturating_sub(1) as u64);
@@ -109,10 +117,23 @@ impl Rng {
             Ok(sheet) if !self.once_in(3) => sheet.as_bytes().to_vec(),
             _ => self.made(),
         };
-        match move_sheet(&bytes) {
-            Ok(moved) if self.once_in(2) => moved.as_bytes().to_vec(),
+        match (self.range(0, 2), move_sheet(&bytes)) {
+            (0, Ok(moved)) => moved.as_bytes().to_vec(),
+            (1, _) => self.stroked(bytes),
             _ => bytes,
         }
+    }
+
+    /// A sheet of version 1 as one of version 3. Most have short strokes and are accepted.
+    pub fn stroked(&mut self, mut bytes: Vec<u8>) -> Vec<u8> {
+        let longest = [1, 2, 4, 255][self.range(0, 3) as usize];
+        let tasks = usize::from(bytes[5]);
+        bytes[3] = 3;
+        for record in bytes[8..].chunks_exact_mut(10).take(tasks) {
+            let budget = u16::from_le_bytes([record[2], record[3]]);
+            record[5] = self.range(1, u64::from(budget).min(longest)) as u8;
+        }
+        bytes
     }
 
     /// A sheet with one change or several.
@@ -130,7 +151,7 @@ impl Rng {
         // the header, and a field of a task record that a single change may leave in range
         let front = self.range(0, 7) as usize;
         let task = 8 + 10 * self.range(0, last / 10) as usize;
-        let field = task + [0, 2, 4, 6][self.range(0, 3) as usize];
+        let field = task + [0, 2, 4, 5, 6][self.range(0, 4) as usize];
         let (other, byte) = (self.range(0, last) as usize, self.byte());
         match self.range(0, 9) {
             0 => bytes.truncate(at),
@@ -151,7 +172,7 @@ impl Rng {
         let length = self.range(0, 900);
         let mut bytes: Vec<u8> = (0..length).map(|_| self.byte()).collect();
         if self.once_in(2) {
-            let (version, tasks, cores) = (self.range(1, 2), self.range(0, 70), self.range(0, 9));
+            let (version, tasks, cores) = (self.range(1, 3), self.range(0, 70), self.range(0, 9));
             bytes.resize((8 + 10 * tasks + 8 * cores) as usize, 0);
             let header = [
                 b'T',

@@ -125,12 +125,13 @@ fn task_table(fields: &Fields, count: u8, marks: &Marks) -> Table {
         ("byte", Side::Right),
         ("bytes", Side::Left),
         ("position", Side::Right), // version 2
-        ("task", Side::Right),     // version 1
+        ("task", Side::Right),     // versions 1 and 3
         ("period", Side::Right),
         ("budget", Side::Right),
-        ("core", Side::Right), // version 1
-        ("task", Side::Right), // version 2
-        ("spare", Side::Right),
+        ("core", Side::Right),   // versions 1 and 3
+        ("task", Side::Right),   // version 2
+        ("spare", Side::Right),  // versions 1 and 2
+        ("stroke", Side::Right), // version 3
         ("factor", Side::Right),
         ("core", Side::Right), // version 2
         ("T", Side::Right),
@@ -150,8 +151,12 @@ fn task_row(fields: &Fields, position: u8, marks: &Marks) -> Vec<String> {
     let place = Some(position);
     let named = fields.byte(at + 4);
     let core = task.and_then(|task| task.core);
-    let by_number = |value: Option<u8>| cell(value.filter(|_| !fields.layout.grouped));
-    let by_core = |value: Option<u8>| cell(value.filter(|_| fields.layout.grouped));
+    let by_number = |value: Option<u8>| cell(value.filter(|_| !fields.layout.is_grouped()));
+    let by_core = |value: Option<u8>| cell(value.filter(|_| fields.layout.is_grouped()));
+    let (spare, stroke) = match fields.layout.has_strokes() {
+        false => (hex(bytes_of(fields, at + 5, 1)), String::new()),
+        true => (String::new(), cell(fields.byte(at + 5))),
+    };
     vec![
         at.to_string(),
         hex(bytes_of(fields, at, TASK_SIZE)),
@@ -161,7 +166,8 @@ fn task_row(fields: &Fields, position: u8, marks: &Marks) -> Vec<String> {
         cell(fields.two(at + 2)),
         by_number(named),
         by_core(named),
-        hex(bytes_of(fields, at + 5, 1)),
+        spare,
+        stroke,
         cell(fields.four(at + 6)),
         by_core(core),
         cell(task.and_then(|task| fields.accelerated(&task))),
@@ -183,7 +189,7 @@ fn core_table(fields: &Fields, count: u8, marks: &Marks) -> Table {
     ]);
     for number in 0..count {
         let at = fields.layout.core_offset(number);
-        let (count, spare) = match fields.layout.grouped {
+        let (count, spare) = match fields.layout.is_grouped() {
             false => (None, bytes_of(fields, at + 2, 2)),
             true => (fields.byte(at + 2), bytes_of(fields, at + 3, 1)),
         };
@@ -204,7 +210,10 @@ fn core_table(fields: &Fields, count: u8, marks: &Marks) -> Table {
 /// Names the records that the bytes do not come to.
 fn missing(page: &mut Page, fields: &Fields, tasks: u8, cores: u8) {
     let layout = fields.layout;
-    let noun = if layout.grouped { "position" } else { "task" };
+    let noun = match layout.is_grouped() {
+        false => "task",
+        true => "position",
+    };
     let records = [
         span(noun, tasks, layout.tasks),
         span("core", cores, layout.cores),

@@ -65,6 +65,7 @@ mod tests {
             core: Some(0),
             period,
             budget,
+            stroke: 1,
             factor: 1,
         };
         thousandths(&jobs.iter().map(task).collect::<Vec<_>>())

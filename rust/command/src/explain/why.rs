@@ -9,7 +9,7 @@ use crate::wording::{counted, joined};
 
 /// Why a sheet is refused, and what may have happened. `more` says that the file has more bytes than were read.
 pub fn why(page: &mut Page, fields: &Fields, fault: &Fault, guess: &Guess, more: bool) {
-    let grouped = fields.layout.grouped;
+    let grouped = fields.layout.is_grouped();
     match fault {
         Fault::Length { layout, found } => {
             page.paragraph(&header::other_length(*layout, *found, more));
@@ -17,7 +17,7 @@ pub fn why(page: &mut Page, fields: &Fields, fault: &Fault, guess: &Guess, more:
         Fault::Order(disorder) => page.paragraph(&disorder.words(fields.layout)),
         Fault::Stretch(stretch) => page.paragraph(&figures::stretch(stretch, grouped)),
         Fault::Chain { core, tasks, at } => figures::chain(page, *core, tasks, *at, grouped),
-        Fault::Overload(load) => load::overload(page, load, grouped),
+        Fault::Overload(load) => load::overload(page, load, fields.layout),
         _ => page.paragraph(&sentence(fault, grouped)),
     }
     if let Some(words) = header::guess(fields, guess) {
@@ -61,6 +61,12 @@ fn task_sentence(fault: &Fault, grouped: bool) -> String {
             place(task, grouped),
             task.budget,
             task.period
+        ),
+        Fault::Stroke(task) => format!(
+            "The stroke length of {} is {}, and its budget is {}. A stroke has at least 1 tick and at most the budget.",
+            name(task, grouped),
+            task.stroke,
+            task.budget
         ),
         Fault::Core { task, core, cores } => format!(
             "The record of {} names core {core}. The sheet has {}.",

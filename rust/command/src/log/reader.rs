@@ -238,12 +238,16 @@ fn number(word: &str, low: u64, high: u64) -> Result<u64, String> {
     }
 }
 
-/// `task 1 period 9 budget 7 within 9 name receiver`; the name goes to the end of the line.
+/// `task 1 period 9 budget 7 within 9 stroke 4 name receiver`; the name goes to the end of the line.
 fn task(words: &[&str], text: &str) -> Result<Task, String> {
-    let form = "a task is told as `task 0 period 5 budget 1 within 4`, with `name key` behind it if it has one";
+    let form = "a task is told as `task 0 period 5 budget 1 within 4`, with `stroke 2` behind it if it has strokes and `name key` if it has a name";
     let (number_word, p, e, w, rest) = match words {
         ["task", i, "period", p, "budget", e, "within", w, rest @ ..] => (i, p, e, w, rest),
         _ => return Err(form.to_owned()),
+    };
+    let (stroke, rest) = match rest {
+        ["stroke", stroke, rest @ ..] => (*stroke, rest),
+        rest => ("1", rest),
     };
     let name = match rest {
         [] => None,
@@ -255,11 +259,13 @@ fn task(words: &[&str], text: &str) -> Result<Task, String> {
         _ => return Err(form.to_owned()),
     };
     let period = number(p, 1, 60_000)?;
+    let budget = number(e, 1, period)?;
     Ok(Task {
         number: number(number_word, 0, 63)? as u8,
         period: period as u16,
-        budget: number(e, 1, period)? as u16,
+        budget: budget as u16,
         within: number(w, 1, period)? as u16,
+        stroke: number(stroke, 1, budget.min(255))? as u8,
         name,
     })
 }
@@ -308,6 +314,8 @@ mod tests {
         let text = "homvaits log 1\ncore 1\n\
             task 2 period 5 budget 1 within 4 name name of a task\n\
             task 0 period 9 budget 7 within 9\n\
+            task 3 period 9 budget 7 within 9 stroke 7\n\
+            task 4 period 9 budget 7 within 9 stroke 2 name stroke 3\n\
             release 2 accepted\nrelease 0 refused 18 place 0\ntick 2\ntick idle\ntick refused 21 place 0\nfinish 9 refused 17 place 0\n\
             bench\n";
         let logs = parse(text).unwrap().logs().unwrap();
@@ -366,9 +374,9 @@ mod tests {
                 "begins with a letter",
             ),
             (
-                "tick\ntask 1 period 4 budget 4 within 4",
-                2,
-                "in front of the calls",
+                "task 1 period 4 budget 3 within 4 stroke 4",
+                1,
+                "`4` is not a number from 1 to 3",
             ),
             ("tick\nhomvaits log 1", 2, "another log"),
             ("homvaits log 2", 1, "not known"),

@@ -75,6 +75,7 @@ fn started(sheet: &Sheet, number: u8, core: Core) -> Started {
         period: task.period,
         budget: task.budget,
         within: within(task.number),
+        stroke: task.stroke,
         name: None,
     });
     Started {
@@ -93,6 +94,7 @@ pub fn of_list(list: &JobList) -> Result<Started, Failure> {
         period: task.period,
         budget: task.budget,
         within: task.period,
+        stroke: task.stroke,
         name: name(task.number),
     });
     Ok(Started {

@@ -202,7 +202,10 @@ fn core_of(
 
 /// The tasks that the calls tell of are those of the core, which take their names from there if they have none.
 fn same_tasks(calls: &Calls, part: &Part, tasks: &mut [Task]) -> Result<(), Failure> {
-    let figures = |task: &Task| (task.number, task.period, task.budget, task.within);
+    let figures = |task: &Task| {
+        let Task { number, period, .. } = *task;
+        (number, period, task.budget, task.within, task.stroke)
+    };
     for (told, line) in &part.tasks {
         let Some(task) = tasks.iter_mut().find(|task| figures(task) == figures(told)) else {
             let text = format!(

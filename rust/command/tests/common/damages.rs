@@ -1,4 +1,4 @@
-//! A damaged sheet for every refusal, in both versions where it can occur.
+//! A damaged sheet for every refusal, in every version where it can occur.
 
 use super::sheets::*;
 
@@ -53,6 +53,7 @@ pub fn word(number: u8) -> &'static str {
     ];
     match number {
         23 => "Order",
+        25 => "Stroke",
         _ => words[usize::from(number) - 1],
     }
 }
@@ -79,18 +80,18 @@ impl Gathered {
     /// A sheet that is refused at this task, which in version 2 goes by its position.
     fn at_task(&mut self, what: &str, made: &Sheet, number: u8, task: usize, figures: &[u64]) {
         let place = match self.version {
-            1 => task,
-            _ => made.position(task),
+            2 => made.position(task),
+            _ => task,
         };
         let bytes = made.write(self.version);
         self.add(what, bytes, number, Place::Task(place), figures);
     }
 }
 
-/// Every refusal of both versions.
+/// Every refusal of every version.
 pub fn damages() -> Vec<Damage> {
     let mut all = Vec::new();
-    for version in [1, 2] {
+    for version in [1, 2, 3] {
         let mut gathered = Gathered {
             version,
             damages: Vec::new(),
@@ -102,10 +103,12 @@ pub fn damages() -> Vec<Damage> {
         stretched(&mut gathered);
         broken(&mut gathered);
         overloaded(&mut gathered);
-        if version == 1 {
-            cores(&mut gathered);
-        } else {
-            order(&mut gathered);
+        match version {
+            2 => order(&mut gathered),
+            _ => cores(&mut gathered),
+        }
+        if version == 3 {
+            strokes(&mut gathered);
         }
         all.append(&mut gathered.damages);
     }
@@ -124,7 +127,7 @@ fn frame(to: &mut Gathered) {
     }
     to.add("another mark", with(&good, 0, b"TSX"), 2, Whole, &[]);
     to.add("a small letter", with(&good, 0, b"tSH"), 2, Whole, &[]);
-    for version in [0, 3, 256 + u16::from(to.version), 65_535] {
+    for version in [0, 4, 256 + u16::from(to.version), 65_535] {
         let bytes = with16(&good, 3, version);
         to.add("a version", bytes, 3, Whole, &[u64::from(version)]);
     }
@@ -137,8 +140,11 @@ fn frame(to: &mut Gathered) {
     to.add("one byte more", more, 5, Whole, &[75, 74]);
     to.add("a task more", with(&good, 5, &[6]), 5, Whole, &[74, 84]);
     to.add("a core less", with(&good, 6, &[1]), 5, Whole, &[74, 66]);
-    let mut spares = vec![7, task_at(0) + 5, task_at(4) + 5, core_at(&good, 1) + 3];
-    if to.version == 1 {
+    let mut spares = vec![7, core_at(&good, 1) + 3];
+    if to.version != 3 {
+        spares.extend([task_at(0) + 5, task_at(4) + 5]);
+    }
+    if to.version != 2 {
         spares.push(core_at(&good, 0) + 2);
     }
     for at in spares {
@@ -267,17 +273,45 @@ fn overloaded(to: &mut Gathered) {
     }
 }
 
-/// Rule 9, which version 1 alone has.
+/// Rule 9, which version 2 does not have.
 fn cores(to: &mut Gathered) {
     use Place::Task;
-    let good = two_cores().by_number();
+    let good = two_cores().write(to.version);
     for (number, core) in [(0, 2), (3, 255)] {
         let bytes = with(&good, task_at(number) + 4, &[core]);
         let figures = [u64::from(core), 2];
         to.add("a core that is not there", bytes, 9, Task(number), &figures);
     }
-    let alone = sheet(&[task(5, 1, 0, 1)], &[]).by_number();
+    let alone = sheet(&[task(5, 1, 0, 1)], &[]).write(to.version);
     to.add("tasks without cores", alone, 9, Task(0), &[0]);
+}
+
+/// Rule 25, which version 3 alone has, and rule 14 by a stroke: the figures are the sum with the wait and the capacity.
+fn strokes(to: &mut Gathered) {
+    use Place::{Core, Task};
+    let good = two_cores().in_strokes();
+    let stroke = |number: usize| task_at(number) + 5;
+    for number in 0..5 {
+        let budget = good[task_at(number) + 2];
+        for length in [0, budget + 1, 255] {
+            let bytes = with(&good, stroke(number), &[length]);
+            let figures = [u64::from(length), u64::from(budget)];
+            to.add("a stroke", bytes, 25, Task(number), &figures);
+        }
+    }
+    let none = with(&good, stroke(1), &[0]);
+    let budget = with16(&none, task_at(3) + 2, 0);
+    to.add("a budget before a stroke", budget, 8, Task(3), &[0]);
+    let core = with(&none, task_at(0) + 4, &[9]);
+    to.add("a stroke before a core", core, 25, Task(1), &[0, 2]);
+    let bytes = strokes_of(5).in_strokes();
+    to.add("a long stroke", bytes, 14, Core(0), &[20, 18]);
+    let three = three_tasks(6, 4).with_strokes(&[1, 1, 4]);
+    let bytes = three.in_strokes();
+    to.add("a stroke of the last task", bytes, 14, Core(0), &[16, 12]);
+    let second = two_cores().with_strokes(&[5, 2]);
+    let bytes = second.in_strokes();
+    to.add("a stroke on the second core", bytes, 14, Core(1), &[20, 18]);
 }
 
 /// Rule 23, which version 2 alone has.

@@ -1,6 +1,6 @@
 //! What `run` prints: the log, held against the dispatcher and the on-time rule of the tests, and the table below it.
 
-use super::running::{calls_of, judge, read_log, Call, CoreLog, LogTask, Model, Tally};
+use super::running::{calls_of, judge, read_log, unbroken, Call, CoreLog, LogTask, Model, Tally};
 use super::{numbers, Folder, Ran};
 
 /// A line of the table: a task's core (none on the bench), number, name and how its jobs got on.
@@ -53,6 +53,7 @@ pub fn holds(ran: &Ran) -> Vec<CoreLog> {
     let mut sums = Sums::default();
     for log in &logs {
         answers(log, ran);
+        unbroken(log);
         let ticks = log.calls.iter().filter(|(call, _)| *call == Call::Tick);
         sums.ticks += ticks.count() as u64;
         let tallies = judge(log);

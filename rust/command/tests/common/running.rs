@@ -1,4 +1,4 @@
-//! Logs as they are printed, the dispatcher of section 6 of docs/SHEET.md, and the on-time rule of section 7.
+//! Logs as they are printed, the dispatcher of sections 6 and 14 of docs/SHEET.md, the on-time rule of section 7, and unbroken strokes.
 
 use std::collections::BTreeMap;
 
@@ -24,6 +24,8 @@ pub struct LogTask {
     pub period: u64,
     pub budget: u64,
     pub within: u64,
+    /// The stroke length, 1 where the line does not tell it.
+    pub stroke: u64,
     pub name: Option<String>,
 }
 
@@ -70,14 +72,20 @@ fn task(line: &str, words: &[&str]) -> LogTask {
         assert_eq!(words.get(at), Some(&name), "`{line}`");
         number(words[at + 1], line)
     };
+    let stroke = match words.get(8) {
+        Some(&"stroke") => field(8, "stroke"),
+        _ => 1,
+    };
     let task = LogTask {
         number: number(words[1], line),
         period: field(2, "period"),
         budget: field(4, "budget"),
         within: field(6, "within"),
+        stroke,
         name: line.split_once(" name ").map(|(_, name)| name.to_owned()),
     };
-    assert!(words.len() == 8 || task.name.is_some(), "`{line}`");
+    let end = if stroke > 1 { 10 } else { 8 };
+    assert!(words.len() == end || task.name.is_some(), "`{line}`");
     task
 }
 
@@ -116,12 +124,17 @@ struct Slot {
     number: u8,
     period: u64,
     budget: u64,
+    stroke: u64,
     age: u64,
     left: u64,
 }
 
-/// A core as section 6 tells it.
-pub struct Model(Vec<Slot>);
+/// A core as sections 6 and 14 tell it.
+pub struct Model {
+    slots: Vec<Slot>,
+    /// The task in its stroke, and the ticks left to that.
+    stroke: Option<(u8, u64)>,
+}
 
 impl Model {
     /// The fresh state of these tasks, in any order.
@@ -130,12 +143,14 @@ impl Model {
             number: task.number,
             period: task.period,
             budget: task.budget,
+            stroke: task.stroke,
             age: task.period,
             left: 0,
         };
         let mut slots: Vec<Slot> = tasks.iter().map(slot).collect();
         slots.sort_by_key(|slot| (slot.period, slot.number));
-        Model(slots)
+        let stroke = None;
+        Model { slots, stroke }
     }
 
     pub fn call(&mut self, call: Call) -> Answer {
@@ -150,33 +165,78 @@ impl Model {
                 (slot.age, slot.left) = (0, slot.budget);
                 Answer::Accepted
             }),
-            Call::Finish(number) => self.on(number, |slot| {
-                if slot.left == 0 {
-                    return Answer::Refused(20, u16::from(slot.number));
+            Call::Finish(number) => {
+                let answer = self.on(number, |slot| {
+                    if slot.left == 0 {
+                        return Answer::Refused(20, u16::from(slot.number));
+                    }
+                    slot.left = 0;
+                    Answer::Accepted
+                });
+                let own = |(task, _): &(u8, u64)| *task == number;
+                if answer == Answer::Accepted && self.stroke.as_ref().is_some_and(own) {
+                    self.stroke = None;
                 }
-                slot.left = 0;
-                Answer::Accepted
-            }),
+                answer
+            }
             Call::Tick => self.tick(),
         }
     }
 
     fn on(&mut self, number: u8, then: impl Fn(&mut Slot) -> Answer) -> Answer {
-        let slot = self.0.iter_mut().find(|slot| slot.number == number);
+        let slot = self.slots.iter_mut().find(|slot| slot.number == number);
         slot.map_or(Answer::Refused(17, 0), then)
     }
 
     fn tick(&mut self) -> Answer {
-        let pending = self.0.iter_mut().find(|slot| slot.left > 0);
-        let answer = pending.map_or(Answer::Idle, |slot| {
-            slot.left -= 1;
-            Answer::Ran(slot.number)
-        });
-        for slot in &mut self.0 {
+        let pending = self.slots.iter().find(|slot| slot.left > 0);
+        let begun = pending.map(|slot| (slot.number, slot.stroke.min(slot.left)));
+        let stroke = self.stroke.or(begun);
+        let answer = match stroke {
+            None => Answer::Idle,
+            Some((number, left)) => {
+                self.stroke = Some((number, left - 1)).filter(|(_, left)| *left > 0);
+                self.on(number, |slot| {
+                    slot.left -= 1;
+                    Answer::Ran(slot.number)
+                })
+            }
+        };
+        for slot in &mut self.slots {
             slot.age = (slot.age + 1).min(slot.period);
         }
         answer
     }
+}
+
+/// The promise of unbroken strokes, by calls and answers alone: of each job the first q ticks stand together, the next q, and so on.
+/// Answers how many ticks go on with a stroke while a task above it is pending.
+pub fn unbroken(log: &CoreLog) -> usize {
+    let mut had: BTreeMap<u8, Option<u64>> = BTreeMap::new();
+    let (mut last, mut waited) = (Answer::Idle, 0);
+    for (at, &(call, answer)) in log.calls.iter().enumerate() {
+        match (call, answer) {
+            (Call::Release(number), Answer::Accepted) => drop(had.insert(number, Some(0))),
+            (Call::Finish(number), Answer::Accepted) => drop(had.insert(number, None)),
+            (Call::Tick, Answer::Ran(number)) => {
+                let place = log.tasks.iter().position(|task| task.number == number);
+                let place = place.expect("a task of the core");
+                let (task, above) = (&log.tasks[place], &log.tasks[..place]);
+                let ticks = had[&number].expect("a job");
+                if ticks % task.stroke > 0 {
+                    assert_eq!(last, answer, "call {at} breaks a stroke of {number}");
+                    let waits = |task: &LogTask| had.get(&task.number).is_some_and(Option::is_some);
+                    waited += usize::from(above.iter().any(waits));
+                }
+                let more = Some(ticks + 1).filter(|ticks| *ticks < task.budget);
+                had.insert(number, more);
+                last = answer;
+            }
+            (Call::Tick, _) => last = answer,
+            _ => {}
+        }
+    }
+    waited
 }
 
 /// How the jobs of a task got on.

@@ -1,4 +1,4 @@
-//! Sheets byte by byte, as in sections 2, 10 and 12 of docs/SHEET.md.
+//! Sheets byte by byte, as in sections 2, 10, 12 and 14 of docs/SHEET.md.
 
 use super::Rng;
 
@@ -7,6 +7,8 @@ pub struct Task {
     pub period: u16,
     pub budget: u16,
     pub core: u8,
+    /// The stroke length, which version 3 alone writes.
+    pub stroke: u8,
     pub factor: u32,
 }
 
@@ -27,6 +29,7 @@ pub const fn task(period: u16, budget: u16, core: u8, factor: u32) -> Task {
         period,
         budget,
         core,
+        stroke: 1,
         factor,
     }
 }
@@ -69,6 +72,11 @@ pub fn two_cores() -> Sheet {
     sheet(&tasks, &[core(4, 1), core(9, 2)])
 }
 
+/// The example of section 14: the worked example with strokes of 1 tick and of so many.
+pub fn strokes_of(ticks: u8) -> Sheet {
+    full_core().with_strokes(&[1, ticks])
+}
+
 /// 64 tasks, eight on each of eight cores: the longest sheet.
 pub fn longest() -> Sheet {
     let tasks: Vec<Task> = (0..64).map(|i| task(8, 1, i / 8, 1)).collect();
@@ -94,15 +102,35 @@ impl Sheet {
     pub fn write(&self, version: u8) -> Vec<u8> {
         match version {
             1 => self.by_number(),
-            _ => self.by_core(),
+            2 => self.by_core(),
+            _ => self.in_strokes(),
         }
+    }
+
+    /// The same sheet with these stroke lengths, by task number.
+    pub fn with_strokes(&self, strokes: &[u8]) -> Sheet {
+        let mut sheet = self.clone();
+        for (task, stroke) in sheet.tasks.iter_mut().zip(strokes) {
+            task.stroke = *stroke;
+        }
+        sheet
     }
 
     /// The bytes of version 1.
     pub fn by_number(&self) -> Vec<u8> {
-        let tasks = self.tasks.iter().map(|task| record(task, task.core));
+        let tasks = self.tasks.iter().map(|task| record(task, [task.core, 0]));
         let cores = self.cores.iter().map(|core| core_record(core, 0));
         self.assembled(1, tasks.flatten().collect(), cores.flatten().collect())
+    }
+
+    /// The bytes of version 3.
+    pub fn in_strokes(&self) -> Vec<u8> {
+        let mut bytes = self.by_number();
+        bytes[3] = 3;
+        for (number, task) in self.tasks.iter().enumerate() {
+            bytes[task_at(number) + 5] = task.stroke;
+        }
+        bytes
     }
 
     /// The bytes of version 2. A task of a core that is not there is left out.
@@ -112,7 +140,7 @@ impl Sheet {
             let order = self.order(number as u8);
             cores.extend(core_record(core, order.len() as u8));
             for number in order {
-                tasks.extend(record(&self.tasks[number], number as u8));
+                tasks.extend(record(&self.tasks[number], [number as u8, 0]));
             }
         }
         self.assembled(2, tasks, cores)
@@ -179,6 +207,30 @@ impl Sheet {
         (sum, u64::from(record.pivot) * last)
     }
 
+    /// B of a task: the longest stroke below it on its core, less 1.
+    pub fn blocking(&self, task: usize) -> u64 {
+        let order = self.order(self.tasks[task].core);
+        let below = order.iter().skip_while(|&&other| other != task).skip(1);
+        let strokes = below.map(|&other| u64::from(self.tasks[other].stroke) - 1);
+        strokes.max().unwrap_or(0)
+    }
+
+    /// Whether for each task the work of it and those above it, and B, are at most its accelerated period: each times D x M.
+    pub fn fits(&self, core: u8) -> bool {
+        let order = self.order(core);
+        let record = self.cores[usize::from(core)];
+        let divisor = u64::from(record.divisor);
+        (0..order.len()).all(|place| {
+            let own = u64::from(self.tasks[order[place]].factor);
+            let share = |&i: &usize| {
+                let task = self.tasks[i];
+                u64::from(task.budget) * divisor * (own / u64::from(task.factor))
+            };
+            let sum: u64 = order[..=place].iter().map(share).sum();
+            sum + self.blocking(order[place]) * divisor <= u64::from(record.pivot) * own
+        })
+    }
+
     /// The load of a core in thousandths, rounded up.
     pub fn load(&self, core: u8) -> u64 {
         let (work, room) = self.work(core);
@@ -186,11 +238,11 @@ impl Sheet {
     }
 }
 
-fn record(task: &Task, fifth: u8) -> Vec<u8> {
+fn record(task: &Task, middle: [u8; 2]) -> Vec<u8> {
     let mut bytes = Vec::new();
     bytes.extend(task.period.to_le_bytes());
     bytes.extend(task.budget.to_le_bytes());
-    bytes.extend([fifth, 0]);
+    bytes.extend(middle);
     bytes.extend(task.factor.to_le_bytes());
     bytes
 }
@@ -228,6 +280,24 @@ pub fn with32(bytes: &[u8], at: usize, number: u32) -> Vec<u8> {
 }
 
 impl Rng {
+    /// A sheet that fits with strokes of random lengths with which it fits.
+    pub fn stroked(&mut self, made: &Sheet) -> Sheet {
+        let mut longest = self.range(1, 255);
+        loop {
+            let most = |task: &Task| longest.min(task.budget.into());
+            let strokes: Vec<u8> = made
+                .tasks
+                .iter()
+                .map(|task| self.range(1, most(task)) as u8)
+                .collect();
+            let stroked = made.with_strokes(&strokes);
+            if longest == 1 || (0..made.cores.len() as u8).all(|core| stroked.fits(core)) {
+                return stroked;
+            }
+            longest /= 2;
+        }
+    }
+
     /// A sheet that is mostly accepted: on each core a chain of factors, periods that are long enough, small budgets.
     pub fn sheet(&mut self) -> Sheet {
         let mut made = Sheet::default();

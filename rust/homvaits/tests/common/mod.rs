@@ -61,6 +61,24 @@ impl Rng {
         let header = [b'T', b'S', b'H', 1, 0, tasks, cores as u8, 0];
         [header.to_vec(), task_records, core_records].concat()
     }
+
+    /// A version 1 sheet as one of version 3, with strokes as long as the checker accepts them, or shorter.
+    pub fn with_strokes(&mut self, sheet: &Sheet) -> Sheet {
+        let mut bytes = sheet.as_bytes().to_vec();
+        bytes[3] = 3;
+        let most: Vec<u8> = sheet.tasks().map(|t| t.budget.min(255) as u8).collect();
+        let mut longest = self.range(1, 255) as u8;
+        loop {
+            for (task, &most) in most.iter().enumerate() {
+                bytes[8 + 10 * task + 5] = self.range(1, u64::from(most.min(longest))) as u8;
+            }
+            // strokes of one tick are accepted where the sheet is
+            match Sheet::check(&bytes) {
+                Ok(sheet) => return sheet,
+                Err(_) => longest /= 2,
+            }
+        }
+    }
 }
 
 /// Thousands of accepted sheets: planned from random job lists with all starts and limits, and made by hand.

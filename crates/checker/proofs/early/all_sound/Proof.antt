@@ -2,6 +2,7 @@ use borrow.Author.Needs.{needs}
 use Prim.Native.Nat.{_≤_, _-_}
 use mathlib.Core.Bool.{false≢true}
 use Rattle.sheet.specs.Records.{figuresWith}
+use Rattle.sheet.specs.Views.{strokeOfPosition}
 use Rattle.fit.specs.Lists.{at}
 use Rattle.checker.proofs.Sound.{Below, below-start, below-turn, below-end}
 use Rattle.checker.proofs.early.all_sound.Statement.{statement}
@@ -11,10 +12,10 @@ use Rattle.checker.proofs.early.all_sound.Lts as lts
 use Rattle.checker.proofs.early.is_sound.Reads as is-sound-reads
 
 abbrev Inv-loop : tie.InvT-loop
-Inv-loop tasks cores on n c i₀ i = (i ≤ n) × Below (figuresWith (at on) n c tasks cores) i
+Inv-loop stroked tasks cores on n c i₀ i = (i ≤ n) × Below (figuresWith (at on) (strokeOfPosition stroked tasks) n c tasks cores) i
 
 abbrev μ-loop : tie.MeasureT-loop
-μ-loop tasks cores on n c i₀ i = n - i
+μ-loop stroked tasks cores on n c i₀ i = n - i
 
 loop-holds : tie.Need-loop-holds Inv-loop μ-loop
 loop-holds c = search (below-start, needs)

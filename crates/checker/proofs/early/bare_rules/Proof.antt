@@ -14,11 +14,11 @@ first-requires c κs = search needs
 enum-known-bare : tie.Need-enum-known-bare
 enum-known-bare c = search needs
 
-cast-t12 : tie.Need-cast-t12
-cast-t12 c = search needs
+cast-t13 : tie.Need-cast-t13
+cast-t13 c = search needs
 
-add-t13 : tie.Need-add-t13
-add-t13 c = search needs
+add-t14 : tie.Need-add-t14
+add-t14 c = search needs
 
 returns : tie.Need-returns
 unfolding coreRows
@@ -33,11 +33,11 @@ first-requires-2 c κs = search needs
 enum-known-pivot : tie.Need-enum-known-pivot
 enum-known-pivot c = search needs
 
-cast-t15 : tie.Need-cast-t15
-cast-t15 c = search needs
+cast-t16 : tie.Need-cast-t16
+cast-t16 c = search needs
 
-add-t16 : tie.Need-add-t16
-add-t16 c = search needs
+add-t17 : tie.Need-add-t17
+add-t17 c = search needs
 
 returns-2 : tie.Need-returns-2
 unfolding coreRows
@@ -56,14 +56,14 @@ bare-rules-spec =
     (tie.spec
     first-requires
     enum-known-bare
-    cast-t12
-    add-t13
+    cast-t13
+    add-t14
     returns
     enum-told
     first-requires-2
     enum-known-pivot
-    cast-t15
-    add-t16
+    cast-t16
+    add-t17
     returns-2
     enum-told-2
     returns-3)

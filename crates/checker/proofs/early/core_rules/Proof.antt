@@ -13,11 +13,11 @@ first-requires c κs = search needs
 enum-known-bare : tie.Need-enum-known-bare
 enum-known-bare c = search needs
 
-cast-t16 : tie.Need-cast-t16
-cast-t16 c = search needs
+cast-t17 : tie.Need-cast-t17
+cast-t17 c = search needs
 
-add-t17 : tie.Need-add-t17
-add-t17 c = search needs
+add-t18 : tie.Need-add-t18
+add-t18 c = search needs
 
 returns : tie.Need-returns
 unfolding coreRows
@@ -32,8 +32,8 @@ first-requires-2 c κs = search needs
 enum-known-factor : tie.Need-enum-known-factor
 enum-known-factor c = search needs
 
-cast-t19 : tie.Need-cast-t19
-cast-t19 c = search needs
+cast-t20 : tie.Need-cast-t20
+cast-t20 c = search needs
 
 returns-2 : tie.Need-returns-2
 unfolding coreRows
@@ -48,11 +48,11 @@ first-requires-3 c κs = search needs
 enum-known-pivot : tie.Need-enum-known-pivot
 enum-known-pivot c = search needs
 
-cast-t21 : tie.Need-cast-t21
-cast-t21 c = search needs
+cast-t22 : tie.Need-cast-t22
+cast-t22 c = search needs
 
-add-t22 : tie.Need-add-t22
-add-t22 c = search needs
+add-t23 : tie.Need-add-t23
+add-t23 c = search needs
 
 returns-3 : tie.Need-returns-3
 unfolding coreRows
@@ -67,8 +67,8 @@ first-requires-4 c κs = search needs
 enum-known-stretch : tie.Need-enum-known-stretch
 enum-known-stretch c = search needs
 
-cast-t24 : tie.Need-cast-t24
-cast-t24 c = search needs
+cast-t25 : tie.Need-cast-t25
+cast-t25 c = search needs
 
 returns-4 : tie.Need-returns-4
 unfolding coreRows
@@ -87,24 +87,24 @@ core-rules-spec =
     (tie.spec
     first-requires
     enum-known-bare
-    cast-t16
-    add-t17
+    cast-t17
+    add-t18
     returns
     enum-told
     first-requires-2
     enum-known-factor
-    cast-t19
+    cast-t20
     returns-2
     enum-told-2
     first-requires-3
     enum-known-pivot
-    cast-t21
-    add-t22
+    cast-t22
+    add-t23
     returns-3
     enum-told-3
     first-requires-4
     enum-known-stretch
-    cast-t24
+    cast-t25
     returns-4
     enum-told-4
     returns-5)

@@ -1,6 +1,7 @@
 use borrow.Author.Needs.{needs}
 use Prim.Native.Nat.{_≤_, _-_}
 use Rattle.sheet.specs.Records.{figuresWith}
+use Rattle.sheet.specs.Views.{strokeOfPosition}
 use Rattle.fit.specs.Lists.{at}
 use Rattle.checker.specs.Steps.{broken}
 use Rattle.fit.proofs.Finds.{Left, find-start, find-hit, find-turn, find-end}
@@ -11,10 +12,10 @@ use Rattle.checker.proofs.early.first.Lts as lts
 use Rattle.checker.proofs.early.is_broken.Reads as is-broken-reads
 
 abbrev Inv-loop : tie.InvT-loop
-Inv-loop test tasks cores on n c end i₀ i = (i ≤ end) × Left (broken test (figuresWith (at on) n c tasks cores)) end i
+Inv-loop test stroked tasks cores on n c end i₀ i = (i ≤ end) × Left (broken test (figuresWith (at on) (strokeOfPosition stroked tasks) n c tasks cores)) end i
 
 abbrev μ-loop : tie.MeasureT-loop
-μ-loop test tasks cores on n c end i₀ i = end - i
+μ-loop test stroked tasks cores on n c end i₀ i = end - i
 
 loop-holds : tie.Need-loop-holds Inv-loop μ-loop
 loop-holds c = search (find-start, needs)

@@ -1,6 +1,7 @@
 use borrow.Author.Needs.{needs}
 use Prim.Native.Nat.{_≤_, _<_, _-_, min}
 use Rattle.sheet.specs.Records.{periodAt, figuresWith}
+use Rattle.sheet.specs.Views.{strokeOfPosition}
 use Rattle.fit.specs.Lists.{at}
 use Rattle.fit.specs.Answers.{Column}
 use Rattle.sheet.proofs.Scans.{scan-skip, scan-hit, scan-none, core-at, core-none}
@@ -15,10 +16,10 @@ use Rattle.checker.proofs.fits.judge.Reads as judge-reads
 use Rattle.fit.proofs.periods_of.Reads as periods-of-reads
 
 abbrev Inv-loop : tie.InvT-loop
-Inv-loop sorted tasks cores on n c periods found₀ k₀ found k = (k ≤ c) × (found < 256) × Column (periodAt tasks) (min n 64) periods × Passed (figuresWith (at on) n c tasks cores) c k found
+Inv-loop sorted stroked tasks cores on n c periods found₀ k₀ found k = (k ≤ c) × (found < 256) × Column (periodAt tasks) (min n 64) periods × Passed (figuresWith (at on) (strokeOfPosition stroked tasks) n c tasks cores) c k found
 
 abbrev μ-loop : tie.MeasureT-loop
-μ-loop sorted tasks cores on n c periods found₀ k₀ found k = c - k
+μ-loop sorted stroked tasks cores on n c periods found₀ k₀ found k = c - k
 
 periods-of-requires : tie.Need-periods-of-requires Inv-loop μ-loop
 periods-of-requires c κs = search needs
@@ -35,8 +36,8 @@ judge-requires c κs = (c .before .before .before .before .before .before .befor
 enum-known-judged : tie.Need-enum-known-judged Inv-loop μ-loop
 enum-known-judged c = search needs
 
-cast-t18 : tie.Need-cast-t18 Inv-loop μ-loop
-cast-t18 c = search needs
+cast-t19 : tie.Need-cast-t19 Inv-loop μ-loop
+cast-t19 c = search needs
 
 returns : tie.Need-returns Inv-loop μ-loop
 unfolding fitRows
@@ -61,11 +62,11 @@ returns-2 : tie.Need-returns-2 Inv-loop μ-loop
 unfolding fitRows
 returns-2 c = search (scan-skip, scan-none, fit-end, fit-clear, core-none)
 
-cast-t21 : tie.Need-cast-t21 Inv-loop μ-loop
-cast-t21 c = search needs
+cast-t22 : tie.Need-cast-t22 Inv-loop μ-loop
+cast-t22 c = search needs
 
-add-t22 : tie.Need-add-t22 Inv-loop μ-loop
-add-t22 c = search needs
+add-t23 : tie.Need-add-t23 Inv-loop μ-loop
+add-t23 c = search needs
 
 returns-3 : tie.Need-returns-3 Inv-loop μ-loop
 unfolding fitRows
@@ -82,7 +83,7 @@ fit-rules-spec =
     slice-aggregate-judge
     judge-requires
     enum-known-judged
-    cast-t18
+    cast-t19
     returns
     enum-known-judged-2
     first-over-requires
@@ -90,6 +91,6 @@ fit-rules-spec =
     loop-less
     loop-again
     returns-2
-    cast-t21
-    add-t22
+    cast-t22
+    add-t23
     returns-3)

@@ -5,9 +5,11 @@ use Rattle.checker.proofs.fits.judge.Statement.{statement}
 use Rattle.checker.proofs.fits.judge.Tie as tie
 use Rattle.checker.proofs.fits.judge.Reads as reads
 use Rattle.checker.proofs.fits.judge.Lts as lts
-use Rattle.checker.proofs.fits.is_over.Reads as is-over-reads
+use Rattle.fit.proofs.is_over.Reads as is-over-reads
 use Rattle.checker.proofs.fits.order_of.Reads as order-of-reads
 use Rattle.fit.proofs.chain_of.Reads as chain-of-reads
+use Rattle.sheet.proofs.divisor.Reads as divisor-reads
+use Rattle.sheet.proofs.pivot.Reads as pivot-reads
 
 order-of-requires : tie.Need-order-of-requires
 order-of-requires c κs = column-sorted _ _ _ (c .before .before .before .before .pre .1) (c .before .before .before .before .pre .2)
@@ -21,11 +23,17 @@ slice-aggregate-chain-of c = search ordered-length
 chain-of-requires : tie.Need-chain-of-requires
 chain-of-requires c κs = search needs
 
+pivot-requires : tie.Need-pivot-requires
+pivot-requires c κs = search needs
+
+divisor-requires : tie.Need-divisor-requires
+divisor-requires c κs = search needs
+
 enum-known-chain : tie.Need-enum-known-chain
 enum-known-chain c = search needs
 
-enum-known-chain-2 : tie.Need-enum-known-chain-2
-enum-known-chain-2 c = search needs
+enum-told : tie.Need-enum-told
+enum-told c = search needs
 
 array-share-prefix-list-2 : tie.Need-array-share-prefix-list-2
 array-share-prefix-list-2 c = search needs
@@ -50,8 +58,10 @@ judge-spec =
     array-share-prefix-list
     slice-aggregate-chain-of
     chain-of-requires
+    pivot-requires
+    divisor-requires
     enum-known-chain
-    enum-known-chain-2
+    enum-told
     array-share-prefix-list-2
     slice-aggregate-is-over
     is-over-requires

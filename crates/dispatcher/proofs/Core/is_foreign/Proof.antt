@@ -2,15 +2,18 @@ use borrow.Author.Needs.{needs}
 use Prim.Native.Nat.{_≤_, _-_}
 use lib.ListN.{take}
 use Rattle.dispatcher.proofs.Places.{array-length}
-use Rattle.dispatcher.proofs.Pass.{Passed, too-many, passed-begun, pass-turn, pass-breaks, pass-end}
+use Rattle.dispatcher.proofs.Pass.{Passed, too-many, passed-begun, pass-turn, pass-breaks, pass-ends, pass-outside}
+use Rattle.dispatcher.proofs.Stray.{some-stroke}
+use Rattle.dispatcher.proofs.Ticking.{placed-foreign}
 use Rattle.dispatcher.proofs.Core.is_foreign.Statement.{statement}
 use Rattle.dispatcher.proofs.Core.is_foreign.Tie as tie
 use Rattle.dispatcher.proofs.Core.is_foreign.Reads as reads
 use Rattle.dispatcher.proofs.Core.is_foreign.Lts as lts
+use Rattle.dispatcher.proofs.form.after.Reads as after-reads
 use Rattle.dispatcher.proofs.form.begun.Reads as begun-reads
 use Rattle.dispatcher.proofs.form.breaks.Reads as breaks-reads
 use Rattle.dispatcher.proofs.form.ends_foreign.Reads as ends-foreign-reads
-use Rattle.dispatcher.proofs.form.after.Reads as after-reads
+use Rattle.dispatcher.proofs.stroke_place.Reads as stroke-place-reads
 
 abbrev Inv-loop : tie.InvT-loop
 Inv-loop self count pass₀ i₀ pass i = (i ≤ count) × Passed (take i (self .tasks)) pass
@@ -55,7 +58,16 @@ ends-foreign-requires : tie.Need-ends-foreign-requires Inv-loop μ-loop
 ends-foreign-requires c κs = search needs
 
 returns-3 : tie.Need-returns-3 Inv-loop μ-loop
-returns-3 c = search (pass-end, array-length, needs)
+returns-3 c = search (pass-ends, array-length, needs)
+
+stroke-place-requires : tie.Need-stroke-place-requires Inv-loop μ-loop
+stroke-place-requires c κs = (search needs, search (some-stroke, needs))
+
+returns-4 : tie.Need-returns-4 Inv-loop μ-loop
+returns-4 c = search (placed-foreign, array-length, needs)
+
+returns-5 : tie.Need-returns-5 Inv-loop μ-loop
+returns-5 c = search (pass-outside, array-length, needs)
 
 pub is-foreign-spec : {M : Type 1} → statement M
 is-foreign-spec =
@@ -75,4 +87,7 @@ is-foreign-spec =
     loop-less
     loop-again
     ends-foreign-requires
-    returns-3)
+    returns-3
+    stroke-place-requires
+    returns-4
+    returns-5)

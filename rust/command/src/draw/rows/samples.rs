@@ -2,7 +2,7 @@
 
 use std::collections::{BTreeMap, BTreeSet};
 
-use homvaits::{plan, Core, Job, Refusal};
+use homvaits::{plan, Core, Job, Refusal, Sheet};
 
 use crate::judge;
 use crate::log::{Answer, Call, Entry, Log, Origin, Task};
@@ -25,13 +25,17 @@ impl Rng {
     }
 }
 
-/// Runs of all cores of a planned sheet.
+/// Runs of all cores of a planned sheet, some with strokes.
 pub fn planned(rng: &mut Rng, ticks: usize) -> Vec<Log> {
     let jobs = rng.jobs_of_share(20);
     // one job alone always passes
     let sheet = plan(&jobs, 8, 0)
         .or_else(|_| plan(&jobs[..1], 8, 0))
         .unwrap();
+    let sheet = match Sheet::check(&rng.stroked(sheet.as_bytes().to_vec())) {
+        Ok(stroked) if rng.once_in(2) => stroked,
+        _ => sheet,
+    };
     let mut log = |core: u8| {
         let mut running = Core::start(&sheet, core).unwrap();
         let within = |number| {
@@ -76,6 +80,7 @@ fn named(task: &homvaits::Task, within: u16) -> Task {
         period: task.period,
         budget: task.budget,
         within,
+        stroke: task.stroke,
         name: name.map(|name| (*name).to_owned()),
     }
 }
@@ -149,6 +154,7 @@ fn task(number: u8, budget: u16, within: u16) -> Task {
         period: 4,
         budget,
         within,
+        stroke: 1,
         name: None,
     }
 }

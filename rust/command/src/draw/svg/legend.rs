@@ -7,6 +7,8 @@ use super::shapes;
 const STEP: usize = 20;
 const COLUMN: usize = 430;
 const ROWS: usize = 4;
+/// From one line below the entries to the next.
+const LINE: usize = 18;
 
 const ENTRIES: [(&str, &str); 8] = [
     ("release", "a job of the task is released"),
@@ -24,8 +26,12 @@ const LINES: [&str; 2] = [
     "p is the period of a task, e its budget, and w within how many ticks of its release a job must have ended.",
 ];
 
+/// Said where some stroke has more than one tick.
+const STROKES: &str =
+    "q is the stroke length of a task: a job that gets a tick keeps the core for so many ticks, or until it ends.";
+
 /// Draws it below this height, and answers how far down it goes.
-pub fn draw(out: &mut String, top: usize) -> usize {
+pub fn draw(out: &mut String, top: usize, strokes: bool) -> usize {
     for (index, (mark, text)) in ENTRIES.into_iter().enumerate() {
         let x = MARGIN + index / ROWS * COLUMN;
         let y = top + index % ROWS * STEP;
@@ -33,11 +39,13 @@ pub fn draw(out: &mut String, top: usize) -> usize {
         shapes::text(out, "key", (x + 34, y + 12), text, "");
     }
     let below = top + ROWS * STEP;
-    for (index, line) in LINES.into_iter().enumerate() {
-        let y = below + 14 + index * 18;
-        shapes::text(out, "key", (MARGIN, y), line, "");
+    let lines = LINES.into_iter().chain(strokes.then_some(STROKES));
+    let mut y = below;
+    for line in lines {
+        shapes::text(out, "key", (MARGIN, y + 14), line, "");
+        y += LINE;
     }
-    below + 36
+    y
 }
 
 /// A mark of the picture in a box of 24 by 16 pixels.

@@ -356,7 +356,11 @@ fn labels_have_number_name_and_figures() {
             let title = label.children.first().map(|title| title.text.clone());
             assert_eq!(title.unwrap_or_else(|| label.text.clone()), task.label());
             let (p, e, w) = (task.period, task.budget, task.within);
-            assert_eq!(figures.text, format!("p {p} e {e} w {w}"));
+            let q = match task.stroke {
+                1 => String::new(),
+                stroke => format!(" q {stroke}"),
+            };
+            assert_eq!(figures.text, format!("p {p} e {e} w {w}{q}"));
             shown += 1;
         }
         assert_eq!(shown, log.tasks.len());

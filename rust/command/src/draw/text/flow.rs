@@ -44,19 +44,25 @@ const CALLS: [&str; 3] = [
     "x refused",
     "& both o and x",
 ];
-const FIGURES: [&str; 3] = ["p period", "e budget", "w ticks a job has to end in"];
+const FIGURES: [&str; 4] = [
+    "p period",
+    "e budget",
+    "w ticks a job has to end in",
+    "q ticks of a stroke",
+];
 const AXIS: &str = "A number on the axis is how many ticks come before its column. \
                     A mark or a call comes before the tick of its column.";
 
-/// What each letter of a picture means.
-pub fn legend(figures: bool, width: usize) -> Vec<String> {
+/// What each letter of a picture means, of strokes where there are some.
+pub fn legend(figures: bool, strokes: bool, width: usize) -> Vec<String> {
     let entries =
         |head: &str, entries: &[&'static str]| flow(head, entries.iter().copied(), "   ", width);
     let mut lines = entries("ticks    ", &TICKS);
     lines.extend(entries("marks    ", &MARKS));
     lines.extend(entries("calls    ", &CALLS));
     if figures {
-        lines.extend(entries("figures  ", &FIGURES));
+        let shown = FIGURES.len() - usize::from(!strokes);
+        lines.extend(entries("figures  ", &FIGURES[..shown]));
     }
     lines.extend(flow("", AXIS.split(' '), " ", width));
     lines
