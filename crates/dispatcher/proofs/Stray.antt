@@ -21,9 +21,9 @@ use Rattle.timing.specs.Serving.{noTask, nth}
 use Rattle.timing.specs.Strokes.{StrokeIs}
 use Rattle.timing.proofs.Strokes.{own-of-place}
 use Rattle.dispatcher.specs.declared.Core.{Core}
-use Rattle.dispatcher.specs.State.{tasksOf, strokeIn, strokeSound}
+use Rattle.dispatcher.specs.State.{tasksOf, strokeIn, InForm, sound, distinct, above, each, eachPair, strokeSound, foreign}
 use Rattle.dispatcher.specs.Steps.{strokePlace, withStroke}
-use Rattle.dispatcher.proofs.Foreign.{stroke-sound, sound-stroke}
+use Rattle.dispatcher.proofs.Foreign.{stroke-sound, sound-stroke, foreign-form}
 use Rattle.dispatcher.proofs.Tested.{whom-own}
 
 -- a number of a stroke with ticks left
@@ -164,3 +164,36 @@ place-tells s r most room e = go (strokeSound (strokeIn s) (tasksOf s)) refl e
     go : (b : Bool) → strokeSound (strokeIn s) (tasksOf s) ≡ b → r ≡ cond b (placeOf (turn (strokeIn s)) (tasksOf s)) 65 → ltb 64 r ≡ not b
     go true x y = le-ltb 64 r (omega (arith, y, place-few (turn (strokeIn s)) (tasksOf s), length-take-le (s .count) (s .tasks) (omega arith)))
     go false x y = lt-ltb 64 r (omega (arith, y))
+
+-- a state breaks its form where it does with its stroke left out, and where its stroke is none of its tasks'
+foreign-parts : (s : Core) → foreign s ≡ (foreign (withStroke s noStroke) || not (strokeSound (strokeIn s) (tasksOf s)))
+unfolding foreign strokeSound
+foreign-parts s = go (ltb 64 (s .count)) (each sound (tasksOf s)) (eachPair distinct (tasksOf s)) (eachPair above (tasksOf s)) (strokeSound (strokeIn s) (tasksOf s))
+  where
+    go : (a b c d e : Bool) → (a || not (b && (c && (d && e)))) ≡ ((a || not (b && (c && (d && true)))) || not e)
+    go true b c d e = refl
+    go false false c d e = refl
+    go false true false d e = refl
+    go false true true false e = refl
+    go false true true true e = refl
+
+module _ (s : Core) (r : Bool) (e : r ≡ foreign (withStroke s noStroke)) where
+  -- without a stroke that is the whole form
+  pub outside-whole : (ltb 0 (s .«stroke_left») || ltb 0 (s .«stroke_task»)) ≡ false → r ≡ foreign s
+  outside-whole y =
+      let n = neither (ltb 0 (s .«stroke_left»)) (ltb 0 (s .«stroke_task»)) y in
+      let left : s .«stroke_left» ≡ 0 = omega (arith, ltb-false 0 (s .«stroke_left») (n .0)) in
+      let task : s .«stroke_task» ≡ 0 = omega (arith, ltb-false 0 (s .«stroke_task») (n .1)) in
+      e ∙ ap (λ n. foreign (withStroke s (record { task = n; left = 0 }))) (sym task) ∙ ap (λ n. foreign (withStroke s (record { task = s .«stroke_task»; left = n }))) (sym left)
+
+  pub outside-broken : r ≡ true → true ≡ foreign s
+  outside-broken x = sym (foreign-parts s ∙ ap (λ b. b || not (strokeSound (strokeIn s) (tasksOf s))) (sym e ∙ x))
+
+  module _ (x : r ≡ false) where
+    pub outside-count : s .count ≤ 64
+    outside-count = foreign-form (withStroke s noStroke) (sym e ∙ x) .count
+
+    pub inside-placed : (v : ℕ) → length (s .tasks) ≡ 64 → (EachPair Distinct (tasksOf s) → v ≡ strokePlace s) → ltb 64 v ≡ foreign s
+    inside-placed v room g =
+        place-tells s v outside-count room (g (foreign-form (withStroke s noStroke) (sym e ∙ x) .form .tasks .distinct))
+        ∙ sym (foreign-parts s ∙ ap (λ b. b || not (strokeSound (strokeIn s) (tasksOf s))) (sym e ∙ x))

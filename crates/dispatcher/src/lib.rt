@@ -90,7 +90,7 @@ fn first_named(core: Core, number: u64) -> usize
 fn spot_of(core: Core, number: u64) -> Spot
     ensures { λ r. ⌜ r ≡ spot core number ⌝ }
 {
-    if core.is_foreign() {
+    if is_foreign_core(core) {
         return Spot::Refused(Refusal::Foreign);
     }
     let at = first_named(core, number);
@@ -325,6 +325,49 @@ fn stroke_place(core: Core) -> usize
     at
 }
 
+// Whether a state breaks its own form, its stroke left out.
+fn foreign_outside(core: Core) -> bool
+    ensures { λ r. ⌜ r ≡ foreign (withStroke core noStroke) ⌝ }
+{
+    let count = core.count;
+    if 64 < count {
+        return true;
+    }
+    let mut pass = form::begun();
+    let mut i = 0;
+    while i < count {
+        let t = core.tasks[i];
+        if form::breaks(pass, t) {
+            return true;
+        }
+        pass = form::after(pass, t);
+        i += 1;
+    }
+    form::ends_foreign(pass, count)
+}
+
+// Whether a state that has a stroke breaks its own form.
+fn foreign_inside(core: Core) -> bool
+    requires { ⌜ (0 < core .«stroke_left») ⊎ (0 < core .«stroke_task») ⌝ }
+    ensures { λ r. ⌜ r ≡ foreign core ⌝ }
+{
+    if foreign_outside(core) {
+        return true;
+    }
+    64 < stroke_place(core)
+}
+
+// `Core::is_foreign` for release and finish. With one caller left, `is_foreign` is compiled into the loop over a row, without a copy of each
+// state.
+fn is_foreign_core(core: Core) -> bool
+    ensures { λ r. ⌜ r ≡ foreign core ⌝ }
+{
+    if (0 < core.stroke_left) | (0 < core.stroke_task) {
+        return foreign_inside(core);
+    }
+    foreign_outside(core)
+}
+
 fn accept(core: Core, at: usize, t: Task) -> Step
     requires { ⌜ at < 64 ⌝ }
     ensures { λ r. ⌜ r ≡ acceptance core at t ⌝ }
@@ -379,27 +422,10 @@ impl Core {
     pub fn is_foreign(self) -> bool
         ensures { λ r. ⌜ r ≡ foreign self ⌝ }
     {
-        let count = self.count;
-        if 64 < count {
-            return true;
-        }
-        let mut pass = form::begun();
-        let mut i = 0;
-        while i < count {
-            let t = self.tasks[i];
-            if form::breaks(pass, t) {
-                return true;
-            }
-            pass = form::after(pass, t);
-            i += 1;
-        }
-        if form::ends_foreign(pass, count) {
-            return true;
-        }
         if (0 < self.stroke_left) | (0 < self.stroke_task) {
-            return 64 < stroke_place(self);
+            return foreign_inside(self);
         }
-        false
+        foreign_outside(self)
     }
 
     // A job of the task is released: 21, 17, 18, 19, else age 0 and ticks left e.
