@@ -35,11 +35,11 @@ use Rattle.margin.specs.declared.Slack.{Slack}
 use Rattle.margin.specs.declared.Slack.the-variants as slacks
 use Rattle.margin.specs.Answers as margin
 use Rattle.timing.specs.Calls.{Call, Answer, accepted, served, idle, refused}
-use Rattle.dispatcher.specs.declared.Core.{Core}
-use Rattle.dispatcher.specs.declared.Step.{Step}
-use Rattle.dispatcher.specs.declared.Answer.{Answer as CodeAnswer}
-use Rattle.dispatcher.specs.declared.Answer.the-variants.{Accepted, Served, Idle, Refused}
-use Rattle.dispatcher.specs.Operations.{answerOf}
+use Rattle.state.specs.declared.Core.{Core}
+use Rattle.state.specs.declared.Step.{Step}
+use Rattle.state.specs.declared.Answer.{Answer as CodeAnswer}
+use Rattle.state.specs.declared.Answer.the-variants.{Accepted, Served, Idle, Refused}
+use Rattle.state.specs.Operations.{answerOf}
 use Rattle.dispatcher.specs.Starts.{sheetAnswer}
 use Rattle.dispatcher.specs.OnTime.{Kept, Timely}
 use Rattle.capi.specs.declared.StepAnswer.{StepAnswer}

@@ -8,7 +8,7 @@ use Rattle.row.specs.Row as row
 use Rattle.margin.specs.Answers as margin
 use Rattle.mover.specs.Answers as move
 use Rattle.timing.specs.Calls.{Answer, accepted, served, idle, refused}
-use Rattle.dispatcher.specs.declared.Core.{Core}
+use Rattle.state.specs.declared.Core.{Core}
 use Rattle.capi.specs.declared.Checked.{Checked}
 use Rattle.capi.specs.declared.PlanAnswer.{PlanAnswer}
 use Rattle.capi.specs.declared.ListAnswer.{ListAnswer}

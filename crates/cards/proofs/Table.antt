@@ -23,8 +23,8 @@ use Rattle.figures.specs.Constructions as figures-constructions
 use Rattle.figures.specs.Passing as figures-passing
 use Rattle.timing.specs.Tasks as timing-tasks
 use Rattle.timing.specs.Calls as timing-calls
-use Rattle.dispatcher.specs.State as dispatcher-state
-use Rattle.dispatcher.specs.Operations as dispatcher-operations
+use Rattle.state.specs.State as dispatcher-state
+use Rattle.state.specs.Operations as dispatcher-operations
 use Rattle.dispatcher.specs.Starts as dispatcher-starts
 use Rattle.planner.specs.FirstFit as planner-fit
 use Rattle.planner.specs.Sheet as planner-sheet

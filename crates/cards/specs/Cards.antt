@@ -23,8 +23,8 @@ use Rattle.jobs.specs.Jobs.{listRows}
 use Rattle.figures.specs.Constructions.{sr, dct}
 use Rattle.figures.specs.Passing.{passes, trials}
 use Rattle.timing.specs.Calls.{Answer, release, finish, tick, accepted, served, idle, refused, Entry, entry, calls, log}
-use Rattle.dispatcher.specs.declared.Core.{Core}
-use Rattle.dispatcher.specs.Operations.{ask, step}
+use Rattle.state.specs.declared.Core.{Core}
+use Rattle.state.specs.Operations.{ask, step}
 use Rattle.dispatcher.specs.Starts.{sheetAnswer, sheetState, listAnswer, listState}
 use Rattle.planner.specs.Plan.{fitOf, sheetFor, planOutcome}
 use Rattle.planner.specs.Plan as planner

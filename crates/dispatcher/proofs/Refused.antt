@@ -13,14 +13,14 @@ use Rattle.checker.specs.Verdict.{verdict}
 use Rattle.jobs.specs.Jobs.{listRows}
 use Rattle.timing.specs.Calls.{Call, release, finish, tick, accepted, refused, modify, ofFirst, answerBy, nextBy, nextStroke, answer, next, entry, log, run}
 use Rattle.timing.specs.Form.{Form}
-use Rattle.dispatcher.specs.declared.Core.{Core}
+use Rattle.state.specs.declared.Core.{Core}
 use Rattle.timing.proofs.Plain.{plain}
-use Rattle.dispatcher.specs.State.{withState, InForm}
-use Rattle.dispatcher.specs.Operations.{step}
+use Rattle.state.specs.State.{withState, InForm}
+use Rattle.state.specs.Operations.{step}
 use Rattle.dispatcher.specs.Starts.{stateOf, sheetAnswer, sheetTasks, sheetState, listAnswer, listState, withoutTasks, Taskless}
-use Rattle.dispatcher.proofs.Foreign.{form-foreign}
-use Rattle.dispatcher.proofs.Outcomes.{same-state}
-use Rattle.dispatcher.proofs.Logs.{log-form}
+use Rattle.state.proofs.Foreign.{form-foreign}
+use Rattle.state.proofs.Outcomes.{same-state}
+use Rattle.state.proofs.Logs.{log-form}
 use Rattle.dispatcher.proofs.Starts.{state-plain, state-places, state-form}
 use Rattle.checker.specs.Verdict as verdict
 

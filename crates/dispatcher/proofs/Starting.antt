@@ -24,12 +24,13 @@ use Rattle.fit.proofs.Selecting.{order-core-ext}
 use Rattle.views.specs.Renamed.{Renamed}
 use Rattle.timing.specs.declared.Task.{Task}
 use Rattle.timing.specs.Serving.{noTask}
-use Rattle.dispatcher.specs.declared.Core.{Core}
+use Rattle.state.specs.declared.Core.{Core}
 use Rattle.dispatcher.specs.Starts.{freshTask, freshTasks, stateOf}
 use Rattle.timing.specs.Calls.{noStroke}
-use Rattle.dispatcher.specs.State.{strokeIn}
-use Rattle.dispatcher.specs.Steps.{freshBy, changed}
-use Rattle.dispatcher.proofs.Aging.{state-is}
+use Rattle.state.specs.State.{strokeIn}
+use Rattle.state.specs.Steps.{changed}
+use Rattle.dispatcher.specs.Steps.{freshBy}
+use Rattle.state.proofs.Aging.{state-is}
 
 -- a task read from a record
 pub fresh-read : (records : List ℕ) (size j stroke number at p e : ℕ) (t : Task) → at ≡ size * j → p ≡ word records at → e ≡ word records (at + 2) → t ≡ freshTask p e stroke number → t ≡ freshTask (word records (size * j)) (word records (size * j + 2)) stroke number

@@ -38,18 +38,18 @@ use Rattle.timing.specs.Calls.{Call, release, accepted, log, run, answer, next,
 use Rattle.timing.specs.Form.{Form}
 use Rattle.timing.specs.OnTime.{OnTime}
 use Rattle.timing.specs.Serving.{ByHistory}
-use Rattle.dispatcher.specs.declared.Core.{Core}
-use Rattle.dispatcher.specs.declared.Step.{Step}
-use Rattle.dispatcher.specs.declared.Answer.the-variants.{Accepted}
+use Rattle.state.specs.declared.Core.{Core}
+use Rattle.state.specs.declared.Step.{Step}
+use Rattle.state.specs.declared.Answer.the-variants.{Accepted}
 use Rattle.timing.specs.Strokes.{StateForm, Unbroken}
 use Rattle.timing.proofs.Plain.{plain, plain-form}
-use Rattle.dispatcher.specs.State.{tasksOf, stateIn, InForm}
-use Rattle.dispatcher.specs.Operations.{ask, step}
+use Rattle.state.specs.State.{tasksOf, stateIn, InForm}
+use Rattle.state.specs.Operations.{refusal, ask, step}
 use Rattle.dispatcher.specs.Starts.{freshTasks, stateOf, sheetAnswer, sheetTasks, sheetState, SheetStart, listAnswer, listState, ListStart, FreshCore}
 use Rattle.dispatcher.specs.OnTime.{Kept, Timely}
-use Rattle.dispatcher.specs.Steps.{freshBy, refusal}
+use Rattle.dispatcher.specs.Steps.{freshBy}
 use Rattle.dispatcher.proofs.Starting.{fresh-renamed}
-use Rattle.dispatcher.proofs.Logs.{log-form, ask-run, never-foreign}
+use Rattle.state.proofs.Logs.{log-form, ask-run, never-foreign}
 use Rattle.dispatcher.proofs.Schedule.{schedule-form, schedule-on-time, schedule-by-period, schedule-unbroken, schedule-by-history, all-fresh, fresh-form}
 use Rattle.checker.specs.Verdict as verdict
 

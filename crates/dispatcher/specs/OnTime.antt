@@ -8,9 +8,9 @@ use Rattle.fit.specs.Cores.{orderOn, withinOn}
 use Rattle.timing.specs.Calls.{Call, Entry, accepted, log}
 use Rattle.timing.specs.OnTime.{count, isRefused, OnTime}
 use Rattle.timing.specs.Strokes.{Unbroken}
-use Rattle.dispatcher.specs.declared.Core.{Core}
-use Rattle.dispatcher.specs.declared.Step.{Step}
-use Rattle.dispatcher.specs.Operations.{answerOf, ask, step}
+use Rattle.state.specs.declared.Core.{Core}
+use Rattle.state.specs.declared.Step.{Step}
+use Rattle.state.specs.Operations.{answerOf, ask, step}
 
 -- What holds of a log l of core k of sheet s: the on-time rule with w and e of the sheet, so also with p and e, no stroke is broken, and no
 -- call is refused as Foreign (21). Beside it, e ≤ w ≤ p for every task of the core.

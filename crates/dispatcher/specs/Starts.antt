@@ -17,10 +17,10 @@ use Rattle.timing.specs.declared.Task.{Task}
 use Rattle.timing.specs.Calls.{Call, release, finish, tick, Answer, accepted, idle, refused, noStroke, entry, log, run}
 use Rattle.timing.specs.Serving.{noTask}
 use Rattle.timing.specs.Form.{Fresh}
-use Rattle.dispatcher.specs.declared.Core.{Core}
-use Rattle.dispatcher.specs.declared.Step.{Step}
-use Rattle.dispatcher.specs.Operations.{answerOf, ask, step}
-use Rattle.dispatcher.specs.State.{tasksOf, strokeIn, InForm}
+use Rattle.state.specs.declared.Core.{Core}
+use Rattle.state.specs.declared.Step.{Step}
+use Rattle.state.specs.Operations.{answerOf, ask, step}
+use Rattle.state.specs.State.{tasksOf, strokeIn, InForm}
 use Rattle.checker.specs.Verdict as verdict
 
 -- a task with its age equal to its period and nothing left

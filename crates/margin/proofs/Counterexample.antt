@@ -24,8 +24,8 @@ use Rattle.jobs.specs.Jobs as jobs-jobs
 use Rattle.timing.specs.Tasks as timing-tasks
 use Rattle.timing.specs.Calls as timing-calls
 use Rattle.timing.specs.OnTime as timing-on-time
-use Rattle.dispatcher.specs.State as dispatcher-state
-use Rattle.dispatcher.specs.Operations as dispatcher-operations
+use Rattle.state.specs.State as dispatcher-state
+use Rattle.state.specs.Operations as dispatcher-operations
 use Rattle.dispatcher.specs.Starts as dispatcher-starts
 use Rattle.margin.specs.Margin as margin-margin
 use Rattle.margin.specs.Answers as margin-answers

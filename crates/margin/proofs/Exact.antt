@@ -34,9 +34,9 @@ use Rattle.timing.specs.Calls.{Call, release, answerBy, nextBy, answer, next, l
 use Rattle.timing.specs.Form.{Form}
 use Rattle.timing.specs.OnTime.{EndsBy, OnTime}
 use Rattle.timing.proofs.Plain.{Ones, plain-log}
-use Rattle.dispatcher.specs.Operations.{ask, step}
+use Rattle.state.specs.Operations.{ask, step}
 use Rattle.dispatcher.specs.Starts.{freshTasks, stateOf, listAnswer, listState, FreshCore}
-use Rattle.dispatcher.proofs.Logs.{log-form}
+use Rattle.state.proofs.Logs.{log-form}
 use Rattle.dispatcher.proofs.Starts.{state-tasks, state-places, state-form, state-plain, list-fresh}
 use Rattle.dispatcher.proofs.Schedule.{level-room}
 use Rattle.margin.specs.Margin.{tasksAbove, request, demand, smallest, marginFrom, margin}

@@ -11,7 +11,7 @@ use Rattle.fit.specs.Cores.{orderOn, withinOn}
 use Rattle.jobs.specs.Jobs.{jobPeriod, jobBudget, listRows}
 use Rattle.timing.specs.Calls.{Call, release, accepted, Entry, entry, log}
 use Rattle.timing.specs.OnTime.{count, isTick, Ended, EndsBy, OnTime}
-use Rattle.dispatcher.specs.Operations.{ask, step}
+use Rattle.state.specs.Operations.{ask, step}
 use Rattle.dispatcher.specs.Starts.{listState}
 use Rattle.margin.specs.Margin.{margin}
 use Rattle.margin.specs.Answers.{ticks, marginAnswer}

@@ -3,3 +3,4 @@ pub mod Outcomes
 pub mod Runs
 pub mod Walks
 pub mod Lending
+pub mod Bytes

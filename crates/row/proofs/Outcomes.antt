@@ -9,9 +9,9 @@ use lib.ListN.{length}
 use Rattle.sheet.specs.declared.Refusal.the-variants.{Foreign, Row as RowWord}
 use Rattle.fit.specs.Lists.{placeOf}
 use Rattle.timing.specs.Calls.{tick}
-use Rattle.dispatcher.specs.declared.Core.{Core}
-use Rattle.dispatcher.specs.Operations.{step}
-use Rattle.dispatcher.specs.State.{foreign}
+use Rattle.state.specs.declared.Core.{Core}
+use Rattle.state.specs.Operations.{step}
+use Rattle.state.specs.State.{foreign}
 use Rattle.row.specs.declared.RowAnswer.{RowAnswer}
 use Rattle.row.specs.declared.RowAnswer.the-variants.{Ticked, Refused}
 use Rattle.row.specs.Row.{Outcome, ticked, refused, outcomeOf, rowOutcome, rowStates, written, rowBytes}

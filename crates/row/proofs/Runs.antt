@@ -17,13 +17,13 @@ use Rattle.checker.specs.Verdict.{verdict}
 use Rattle.timing.specs.declared.Task.{Task}
 use Rattle.timing.specs.Calls.{Call, tick, accepted, served, idle, tickAnswer, ofFirst, answerBy, turn, answer, entry, log, run}
 use Rattle.timing.proofs.Runs.{log-append, run-both}
-use Rattle.dispatcher.specs.declared.Core.{Core}
-use Rattle.dispatcher.specs.State.{tasksOf, strokeIn, foreign}
-use Rattle.dispatcher.specs.Operations.{ask, step, answerByte}
+use Rattle.state.specs.declared.Core.{Core}
+use Rattle.state.specs.State.{tasksOf, strokeIn, foreign}
+use Rattle.state.specs.Operations.{ask, step, answerByte}
 use Rattle.dispatcher.specs.Starts.{stateOf, sheetAnswer, sheetState}
 use Rattle.dispatcher.specs.OnTime.{KeptOn}
-use Rattle.dispatcher.proofs.Foreign.{foreign-form, form-foreign}
-use Rattle.dispatcher.proofs.Logs.{ask-form, step-places, step-form}
+use Rattle.state.proofs.Foreign.{foreign-form, form-foreign}
+use Rattle.state.proofs.Logs.{ask-form, step-places, step-form}
 use Rattle.dispatcher.proofs.Starts.{sheet-kept}
 use Rattle.row.specs.Row.{Outcome, ticked, refused, rowOutcome, rowStates, written, rowBytes}
 use Rattle.row.specs.OnTime.{coreAt, CoreCall, single, inRow, coreNext, coreRun, readByte, tickEntries, entriesOf, coreLog, tickCalls, callsOf, ownCalls, AsAlone, Formed, CoreRuns, RowCall, tickAll, callAt, rowNext, rowRun, callsTo, callsAt, RowRuns}

@@ -9,9 +9,9 @@ use lib.Dec.{eqb}
 use Rattle.fit.specs.Lists.{Each}
 use Rattle.checker.specs.Verdict.{verdict}
 use Rattle.timing.specs.Calls.{Call, tick, Answer, accepted, served, idle, Entry, entry, log, run}
-use Rattle.dispatcher.specs.declared.Core.{Core}
-use Rattle.dispatcher.specs.State.{InForm}
-use Rattle.dispatcher.specs.Operations.{ask, step}
+use Rattle.state.specs.declared.Core.{Core}
+use Rattle.state.specs.State.{InForm}
+use Rattle.state.specs.Operations.{ask, step}
 use Rattle.dispatcher.specs.Starts.{stateOf, sheetAnswer, sheetState}
 use Rattle.dispatcher.specs.OnTime.{KeptOn}
 use Rattle.row.specs.Row.{Outcome, ticked, refused, rowOutcome, rowStates, rowBytes}

@@ -5,7 +5,7 @@ use Rattle.capi.proofs.homvaits_finish.Tie as tie
 use Rattle.capi.proofs.homvaits_finish.Reads as reads
 use Rattle.capi.proofs.homvaits_finish.Lts as lts
 use Rattle.capi.proofs.hand_back.Reads as hand-back-reads
-use Rattle.dispatcher.proofs.Core.finish.Reads as finish-reads
+use Rattle.state.proofs.Core.finish.Reads as finish-reads
 
 finish-requires : tie.Need-finish-requires
 finish-requires c κs = search needs

@@ -5,7 +5,7 @@ use Rattle.capi.proofs.homvaits_release.Tie as tie
 use Rattle.capi.proofs.homvaits_release.Reads as reads
 use Rattle.capi.proofs.homvaits_release.Lts as lts
 use Rattle.capi.proofs.hand_back.Reads as hand-back-reads
-use Rattle.dispatcher.proofs.Core.release.Reads as release-reads
+use Rattle.state.proofs.Core.release.Reads as release-reads
 
 release-requires : tie.Need-release-requires
 release-requires c κs = search needs

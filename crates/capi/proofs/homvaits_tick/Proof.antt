@@ -4,7 +4,7 @@ use Rattle.capi.proofs.homvaits_tick.Statement.{statement}
 use Rattle.capi.proofs.homvaits_tick.Tie as tie
 use Rattle.capi.proofs.homvaits_tick.Reads as reads
 use Rattle.capi.proofs.homvaits_tick.Lts as lts
-use Rattle.dispatcher.proofs.Core.tick.Reads as tick-reads
+use Rattle.state.proofs.Core.tick.Reads as tick-reads
 use Rattle.sheet.proofs.number.Reads as number-reads
 
 tick-requires : tie.Need-tick-requires

@@ -36,14 +36,14 @@ use denote.Triple.Spec.{Meets, tripleOf}
 use denote.Triple.Statement.{Contract, Triple}
 use denote.Triple.Table.{entered, cited}
 use denote.Triple.Walked.{Stays, gave-slice, walkOf, Walks, ends-at, walked, goes-gave-slice, walk-meets}
-use Rattle.dispatcher.specs.declared.Core.{Core}
+use Rattle.state.specs.declared.Core.{Core}
 use Rattle.row.specs.declared.RowAnswer.{RowAnswer}
 use Rattle.row.specs.Row.{Outcome, outcomeOf, rowOutcome, rowStates, rowBytes}
 use Rattle.row.specs.OnTime.{RowRuns}
 use Rattle.row.proofs.Walks.{says-four}
 use Rattle.capi.specs.declared.RowTicked.{RowTicked}
 use Rattle.capi.specs.Answers.{rowTickedOf}
-use Rattle.dispatcher.proofs.Core as core
+use Rattle.state.proofs.Core as core
 use Rattle.row.proofs.RowAnswer as answer
 use Rattle.row.proofs.RowAnswer.Laws as answer-laws
 use Rattle.row.proofs.tick_row as ticks

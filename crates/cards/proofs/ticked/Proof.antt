@@ -5,7 +5,7 @@ use Rattle.cards.proofs.ticked.Tie as tie
 use Rattle.cards.proofs.ticked.Reads as reads
 use Rattle.cards.proofs.ticked.Lts as lts
 use Rattle.cards.proofs.after.Reads as after-reads
-use Rattle.dispatcher.proofs.Core.tick.Reads as tick-reads
+use Rattle.state.proofs.Core.tick.Reads as tick-reads
 
 abbrev Inv-loop : tie.InvT-loop
 Inv-loop ticks state₀ i₀ state i = i ≤ ticks

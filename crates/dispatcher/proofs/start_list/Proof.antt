@@ -6,7 +6,7 @@ use Rattle.dispatcher.proofs.start_list.Reads as reads
 use Rattle.dispatcher.proofs.start_list.Lts as lts
 use Rattle.dispatcher.proofs.empty.Reads as empty-reads
 use Rattle.dispatcher.proofs.of_list.Reads as of-list-reads
-use Rattle.dispatcher.proofs.refuse.Reads as refuse-reads
+use Rattle.state.proofs.refuse.Reads as refuse-reads
 use Rattle.jobs.proofs.check_list.Reads as check-list-reads
 
 check-list-requires : tie.Need-check-list-requires

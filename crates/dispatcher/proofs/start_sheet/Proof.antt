@@ -7,7 +7,7 @@ use Rattle.dispatcher.proofs.start_sheet.Lts as lts
 use Rattle.checker.proofs.check.Reads as check-reads
 use Rattle.dispatcher.proofs.empty.Reads as empty-reads
 use Rattle.dispatcher.proofs.of_core.Reads as of-core-reads
-use Rattle.dispatcher.proofs.refuse.Reads as refuse-reads
+use Rattle.state.proofs.refuse.Reads as refuse-reads
 use Rattle.sheet.proofs.is_grouped.Reads as is-grouped-reads
 use Rattle.sheet.proofs.is_stroked.Reads as is-stroked-reads
 

@@ -46,17 +46,17 @@ use denote.Triple.Table.{entered, cited}
 use denote.Triple.Walked.{says, Stays, stay-none-slice, walkOf, Walks, ends-at, walked, goes-none-slice, walk-meets}
 use denote.Exit.{yes}
 use Rattle.fit.specs.Lists.{placeOf}
-use Rattle.dispatcher.specs.declared.Core.{Core}
-use Rattle.dispatcher.specs.State.{foreign}
+use Rattle.state.specs.declared.Core.{Core}
+use Rattle.state.specs.State.{foreign}
 use Rattle.dispatcher.specs.Starts.{stateOf}
 use Rattle.row.proofs.Places.{in-reach, next-fits, Sought, Later, later-wf, begins, here, onward, nowhere}
 use Rattle.row.proofs.Walks.{early, turnEnds, tests}
-use Rattle.dispatcher.proofs.Core as core
-use Rattle.dispatcher.proofs.Core.Laws as core-laws
-use Rattle.dispatcher.proofs.Core.is_foreign as tested
-use Rattle.dispatcher.proofs.Core.is_foreign.Symbol as tested-def
-use Rattle.dispatcher.proofs.Core.is_foreign.Symbol.{name as #tested}
-use Rattle.dispatcher.proofs.Core.is_foreign.Met as tested-thm
+use Rattle.state.proofs.Core as core
+use Rattle.state.proofs.Core.Laws as core-laws
+use Rattle.state.proofs.Core.is_foreign as tested
+use Rattle.state.proofs.Core.is_foreign.Symbol as tested-def
+use Rattle.state.proofs.Core.is_foreign.Symbol.{name as #tested}
+use Rattle.state.proofs.Core.is_foreign.Met as tested-thm
 use Rattle.row.proofs.first_foreign.Key.{name as #first-foreign}
 use Rattle.row.proofs.first_foreign as f
 use Rattle.row.proofs.first_foreign.Statement as stated
@@ -212,4 +212,4 @@ first-foreign-spec 𝓤 H 𝓜 𝓖 𝓡 =
     entered 𝓤 H (tripleOf 𝓤 H (𝓖 .A) f.signature (f.spec 𝓤 H (𝓖 .A) (𝓜 .mem) (𝓡 .run)))
     (tables 𝓤 H 𝓜 𝓡 code.env .C) (tables 𝓤 H 𝓜 𝓡 code.env .Λ) #first-foreign code.function (code.unfolded 𝓤 H 𝓜 𝓡)
     (meets 𝓤 H (𝓖 .A) (givenOf 𝓤 H 𝓜 𝓖) (𝓜 .mem) (𝓡 .run) (tablesOf 𝓤 H 𝓜 (tables 𝓤 H 𝓜 𝓡 code.env))
-    (cited 𝓤 H (Tested 𝓤 H (𝓖 .A) (𝓜 .mem) (𝓡 .run)) 𝓜 𝓡 code.env #tested tested-def.routine code.calls-dispatcher·Core·is-foreign (tested-thm.met 𝓤 H 𝓜 𝓖 𝓡)))
+    (cited 𝓤 H (Tested 𝓤 H (𝓖 .A) (𝓜 .mem) (𝓡 .run)) 𝓜 𝓡 code.env #tested tested-def.routine code.calls-state·Core·is-foreign (tested-thm.met 𝓤 H 𝓜 𝓖 𝓡)))

@@ -43,20 +43,19 @@ use denote.Triple.Spec.{Meets, tripleOf}
 use denote.Triple.Statement.{Contract, Triple}
 use denote.Triple.Table.{entered, cited}
 use denote.Triple.Walked.{says, needs, Stays, stay-slice, walkOf, Walks, ends-at, walked, goes-slice, walk-meets}
-use Rattle.fit.specs.Lists.{placeOf, over}
+use Rattle.fit.specs.Lists.{over}
 use Rattle.fit.proofs.Finds.{place-before}
 use Rattle.fit.proofs.Overwriting.{overwritten, over-length, over-at, over-turn, over-end, self-turn, self-end}
 use Rattle.timing.specs.Calls.{tick}
-use Rattle.dispatcher.specs.declared.Core.{Core}
-use Rattle.dispatcher.specs.Operations.{ask, step, answerByte}
+use Rattle.state.specs.declared.Core.{Core}
+use Rattle.state.specs.Operations.{ask, step, answerByte}
 use Rattle.dispatcher.specs.Starts.{stateOf}
-use Rattle.dispatcher.specs.State.{foreign}
 use Rattle.row.specs.Row.{written}
 use Rattle.row.specs.OnTime.{coreAt}
 use Rattle.row.proofs.Places.{next-fits, Place, Nearer, nearer-wf, first-place, next-place}
 use Rattle.row.proofs.Lending.{lends-row, row-back}
 use Rattle.row.proofs.Walks.{turnEnds, tests, says-both}
-use Rattle.dispatcher.proofs.Core as core
+use Rattle.state.proofs.Core as core
 use Rattle.row.proofs.tick_at as one
 use Rattle.row.proofs.tick_at.Symbol as one-def
 use Rattle.row.proofs.tick_at.Symbol.{name as #one}
@@ -134,7 +133,7 @@ module _ {M : Type 1} (𝓤 : URA M) (H : Heap 𝓤) (A : Atoms 𝓤) (W : Given
       abbrev to-one : One 𝓤 H A mem run .Ghost
       to-one = (((ν₁ ∷ [], (ν₂ ∷ [], tt)), (fullShare, (fullShare, tt)), tt, lent, (sliceVal (b₁, o₁) (length zs) ∷ [], (sliceVal (b₂, o₂) (length ws) ∷ [], (vint w64 i ∷ [], tt)))), tt)
 
-      goes-one : i < 2 ^ 64 → (i < length zs) × ((i < length ws) × (foreign (coreAt zs i) ≡ false)) → ent 𝓤 (sep 𝓤 (sep 𝓤 (A .lft (ν₁ ∷ []) fullShare) (A .lft (ν₂ ∷ []) fullShare)) (sep 𝓤 (sem 𝓤 H A lent₁) (sem 𝓤 H A lent₂))) (One 𝓤 H A mem run .pre to-one)
+      goes-one : i < 2 ^ 64 → (i < length zs) × (i < length ws) → ent 𝓤 (sep 𝓤 (sep 𝓤 (A .lft (ν₁ ∷ []) fullShare) (A .lft (ν₂ ∷ []) fullShare)) (sep 𝓤 (sem 𝓤 H A lent₁) (sem 𝓤 H A lent₂))) (One 𝓤 H A mem run .pre to-one)
       goes-one fits asked =
           qed W ((‵ (flft (ν₁ ∷ []) fullShare) ⊛ ‵ (flft (ν₂ ∷ []) fullShare)) ∷ ‵ lent₁ ∷ ‵ lent₂ ∷ []) ∵ split ! $ says ! asked $
           nothing ! $ move ! (2 ∷ 0 ∷ []) $ join ! $ move ! (1 ∷ 0 ∷ []) $ join ! $ frame ! $
@@ -154,7 +153,7 @@ module _ {M : Type 1} (𝓤 : URA M) (H : Heap 𝓤) (A : Atoms 𝓤) (W : Given
         fjoin ! $ pureI ! (at-slice core.the-row (states zs) (at .0)) (tt, (tt, tt)) (ap (λ (m : ℕ). sliceVal (b₁, o₁) m ∷ []) (sym e₁), subst (Room core.the-row) (sym e₁) room₁) $ fjoin ! $ fjoin ! $ frame ! $
         feqI ! (List Val) (vunit ∷ []) (vunit ∷ []) refl $ done !
 
-    module _ (𝓣 : Tables 𝓤 H) (ticks : Triple 𝓤 (𝓣 .C #one) (One 𝓤 H A mem run)) (room₁ : Room core.the-row n) (room₂ : Room u8 (length bs)) (asked : (n ≤ length bs) × (n ≤ placeOf foreign ys)) (l₀ l₁ l₂ l₃ l₄ l₅ l₆ l₇ l₈ l₉ l₁₀ : ℕ) where
+    module _ (𝓣 : Tables 𝓤 H) (ticks : Triple 𝓤 (𝓣 .C #one) (One 𝓤 H A mem run)) (room₁ : Room core.the-row n) (room₂ : Room u8 (length bs)) (asked : n ≤ length bs) (l₀ l₁ l₂ l₃ l₄ l₅ l₆ l₇ l₈ l₉ l₁₀ : ℕ) where
       abbrev slice₁ : Ty
       slice₁ = sliceTy (tyRef (named 0) mut (pointee (core.the-row .written)))
 
@@ -187,7 +186,7 @@ module _ {M : Type 1} (𝓤 : URA M) (H : Heap 𝓤) (A : Atoms 𝓤) (W : Given
       many₁ t = over-length (step tick) ys ys (t .i) (t .within) (t .within)
 
       many₂ : (t : Place n) → length (bytesAt (t .i)) ≡ length bs
-      many₂ t = over-length byteOf ys bs (t .i) (t .within) (omega (arith, t .within, asked .0))
+      many₂ t = over-length byteOf ys bs (t .i) (t .within) (omega (arith, t .within, asked))
 
       -- all are overwritten: the slices are closed, and the function returns
       leaves : (t : Place n) → t .i ≡ n → Sq W (I t) (runs (𝓣 .C) (𝓣 .Λ) E rest (atRet E Post))
@@ -204,9 +203,6 @@ module _ {M : Type 1} (𝓤 : URA M) (H : Heap 𝓤) (A : Atoms 𝓤) (W : Given
       abbrev Again : Place n → SProp 𝓤
       Again t = Below 𝓤 H A (Nearer n) I t
 
-      -- the state at a place that is not overwritten yet is in form
-      calm : (t : Place n) → t .i < n → foreign (coreAt (statesAt (t .i)) (t .i)) ≡ false
-      calm t l = ap foreign (over-at (step tick) ys ys (t .i) none l l) ∙ place-before none foreign ys (t .i) (omega (arith, l, asked .1))
 
       -- a turn leaves the loop, or comes to the invariant at a later place
       turn : (t : Place n) → Sq W (I t) (runs (𝓣 .C) (𝓣 .Λ) E pieces.turn-1 (turnEnds (𝓣 .C) (𝓣 .Λ) E (Again t) rest Post))
@@ -216,7 +212,7 @@ module _ {M : Type 1} (𝓤 : URA M) (H : Heap 𝓤) (A : Atoms 𝓤) (W : Given
           assigns ! (bin ! (load ! (from ! (stop !)) (look ! 2 refl)) (load ! (from ! (stop !)) (look ! 3 refl)) tt) (from ! (stop !)) (init ! 7 refl (tt, tt)) $
           tests ! (Again t) rest Post (load ! (from ! (stop !)) (look ! 7 refl)) (λ more.
           let l : t .i < n = ltb→lt (t .i) n more in
-          let m : t .i < length bs = omega (arith, l, asked .0) in
+          let m : t .i < length bs = omega (arith, l, asked) in
           let zs : List Core = statesAt (t .i) in
           let ws : List ℕ = bytesAt (t .i) in
           let l′ : t .i < length zs = omega (arith, l, many₁ t) in
@@ -234,7 +230,7 @@ module _ {M : Type 1} (𝓤 : URA M) (H : Heap 𝓤) (A : Atoms 𝓤) (W : Given
           lft-new ! tt (λ ν₂. move ! (4 ∷ []) $
           use1 W (later (some (λ (δ : GName). ‵ (MutSlice (named 1) (ν₂ ∷ []) u8 .own (record { ptr = (b₂, o₂); name = δ; now = ws }) (sliceVal (b₂, o₂) (length ws) ∷ [])) ⊛ ‵ (flent (ν₂ ∷ []) (Held u8 (length ws) b₂ o₂ δ))))) (lends-row 𝓤 H A W u8 (ν₂ ∷ []) b₂ o₂ (named 1) ws (subst (Room u8) (sym (many₂ t)) room₂)) $ await ! tt $ pick ! (λ δ₂. split ! $
           -- [the bytes' slice; what is kept of it; its token; the states' slice; what is kept of it; its token; _4; …]
-          move ! (5 ∷ 2 ∷ 3 ∷ 0 ∷ []) $ join ! $ use3 W (raw (One 𝓤 H A mem run .pre (to-one ν₁ ν₂ δ₁ δ₂ zs ws (t .i)))) (goes-one ν₁ ν₂ δ₁ δ₂ zs ws (t .i) (omega (arith, l, room₁ .0)) (l′, (m′, calm t l))) $
+          move ! (5 ∷ 2 ∷ 3 ∷ 0 ∷ []) $ join ! $ use3 W (raw (One 𝓤 H A mem run .pre (to-one ν₁ ν₂ δ₁ δ₂ zs ws (t .i)))) (goes-one ν₁ ν₂ δ₁ δ₂ zs ws (t .i) (omega (arith, l, room₁ .0)) (l′, m′)) $
           calls-at ! (fmOf 𝓤 H (W .laws) 𝓣) (One 𝓤 H A mem run) ticks (to-one ν₁ ν₂ δ₁ δ₂ zs ws (t .i)) (and-then ! (load ! (from ! (stop !)) (look ! 11 refl)) (and-then ! (load ! (from ! (stop !)) (look ! 13 refl)) (and-then ! (load ! (from ! (stop !)) (look ! 3 refl)) (no-more !)))) (λ v.
           use1 W (later (some (λ (r : Unit {0}). ((‵ (flft (ν₁ ∷ []) fullShare) ⊛ (‵ (flft (ν₂ ∷ []) fullShare) ⊛ ‵ ftrue)) ⊛ ‵ (Nothing .own r (v ∷ []))) ⊛ raw (ensured 𝓤 H A one.ended (one.clauses 𝓤 H A mem run) (ν₁ ∷ [], (ν₂ ∷ [], tt)) (lent ν₁ ν₂ δ₁ δ₂ zs ws (t .i)) tt r)))) (id⊢ 𝓤 _) $ await ! tt $ pick ! (λ r. split ! $ move ! (1 ∷ []) $
           use1 W (some (λ (zw : List Core × (List ℕ × (Unit {0} × Unit {0}))). ‵ (lasts one.ended (ν₁ ∷ [], (ν₂ ∷ [], tt)) (lent ν₁ ν₂ δ₁ δ₂ zs ws (t .i)) zw) ⊛ (raw (fact 𝓤 (zw .0 ≡ set zs (t .i) (step tick (coreAt zs (t .i))))) ⊛ raw (fact 𝓤 (zw .1 .0 ≡ set ws (t .i) (byteOf (coreAt zs (t .i)))))))) (id⊢ 𝓤 _) $ pick ! (λ zw. split ! $ move ! (1 ∷ []) $ split ! $
@@ -257,7 +253,7 @@ module _ {M : Type 1} (𝓤 : URA M) (H : Heap 𝓤) (A : Atoms 𝓤) (W : Given
       looped = first ! $ blocks ! $ loops ! 𝓣 (Nearer n) (nearer-wf n) I turn (first-place n)
 
     -- the code up to the loop
-    walk : (𝓣 : Tables 𝓤 H) → Triple 𝓤 (𝓣 .C #one) (One 𝓤 H A mem run) → Room core.the-row n → Room u8 (length bs) → (n ≤ length bs) × (n ≤ placeOf foreign ys)
+    walk : (𝓣 : Tables 𝓤 H) → Triple 𝓤 (𝓣 .C #one) (One 𝓤 H A mem run) → Room core.the-row n → Room u8 (length bs) → n ≤ length bs
         → ent 𝓤 (onEntry 𝓤 H A f.signature (κ₁, (κ₂, tt)) (q₁, (q₂, tt)) x at) (WpFn 𝓤 H (𝓣 .C) (𝓣 .Λ) code.function (sliceVal (b₁, o₁) n ∷ sliceVal (b₂, o₂) (length bs) ∷ []) Post)
     walk 𝓣 ticks room₁ room₂ asked =
         qed W ((‵ (flft κ₁ q₁) ⊛ (‵ (flft κ₂ q₂) ⊛ ‵ ftrue)) ∷ ‵ (owns (MutSlice (named 0) κ₁ core.the-row ∷ MutSlice (named 1) κ₂ u8 ∷ []) x at) ∷ []) ∵ enter ! (𝓣 .C) (𝓣 .Λ) code.function (sliceVal (b₁, o₁) n ∷ sliceVal (b₂, o₂) (length bs) ∷ []) _ $

@@ -45,9 +45,9 @@ use Rattle.sheet.specs.declared.Refusal.{Refusal}
 use Rattle.sheet.specs.declared.Refusal.the-variants.{Foreign, Row}
 use Rattle.fit.specs.Lists.{placeOf}
 use Rattle.timing.specs.Calls.{tick}
-use Rattle.dispatcher.specs.declared.Core.{Core}
-use Rattle.dispatcher.specs.Operations.{step}
-use Rattle.dispatcher.specs.State.{foreign}
+use Rattle.state.specs.declared.Core.{Core}
+use Rattle.state.specs.Operations.{step}
+use Rattle.state.specs.State.{foreign}
 use Rattle.row.specs.declared.RowAnswer.{RowAnswer}
 use Rattle.row.specs.declared.RowAnswer.the-variants.{Ticked, Refused}
 use Rattle.row.specs.Row.{written, outcomeOf, rowOutcome, rowStates, rowBytes}
@@ -58,7 +58,7 @@ use Rattle.row.proofs.Walks.{early, says-four}
 use Rattle.row.proofs.Lending.{Kept, lends, comes-back, given-up}
 use Rattle.sheet.proofs.Refusal as word
 use Rattle.sheet.proofs.Refusal.Laws as word-laws
-use Rattle.dispatcher.proofs.Core as core
+use Rattle.state.proofs.Core as core
 use Rattle.row.proofs.RowAnswer as answer
 use Rattle.row.proofs.RowAnswer.Laws as answer-laws
 use Rattle.row.proofs.first_foreign as search
@@ -149,7 +149,7 @@ module _ {M : Type 1} (𝓤 : URA M) (H : Heap 𝓤) (A : Atoms 𝓤) (W : Given
   abbrev to-each : Each 𝓤 H A mem run .Ghost
   to-each = (((κ₁, (κ₂, tt)), (q₁, (q₂, tt)), tt, x, at), tt)
 
-  goes-each : (n ≤ length bs) × (n ≤ placeOf foreign ys) → ent 𝓤 (sep 𝓤 (sep 𝓤 (A .lft κ₁ q₁) (A .lft κ₂ q₂)) (sep 𝓤 (sem 𝓤 H A Own₁) (sem 𝓤 H A Own₂))) (Each 𝓤 H A mem run .pre to-each)
+  goes-each : n ≤ length bs → ent 𝓤 (sep 𝓤 (sep 𝓤 (A .lft κ₁ q₁) (A .lft κ₂ q₂)) (sep 𝓤 (sem 𝓤 H A Own₁) (sem 𝓤 H A Own₂))) (Each 𝓤 H A mem run .pre to-each)
   goes-each asked =
       qed W ((‵ (flft κ₁ q₁) ⊛ ‵ (flft κ₂ q₂)) ∷ ‵ Own₁ ∷ ‵ Own₂ ∷ []) ∵ split ! $ says ! asked $
       nothing ! $ move ! (2 ∷ 0 ∷ []) $ join ! $ move ! (1 ∷ 0 ∷ []) $ join ! $ frame ! $ nothing ! $ move ! (2 ∷ 0 ∷ []) $ fjoin ! $ move ! (1 ∷ 0 ∷ []) $ fjoin ! $ done !
@@ -216,7 +216,7 @@ module _ {M : Type 1} (𝓤 : URA M) (H : Heap 𝓤) (A : Atoms 𝓤) (W : Given
         assigns ! (agg ! (and-then ! (load ! (from ! (stop !)) (look ! 16 refl)) (and-then ! (load ! (from ! (fld ! refl (stop !))) (look-in ! 4 (sub ! 1 refl (whole !)))) (no-more !)))) (from ! (stop !)) (init ! 17 refl (tt, (tt, (record { fits = room₁ .0 }, tt)))) $
         assigns ! (addr ! (from ! (fld ! refl (hop ! (look-in ! 5 (sub ! 0 refl (whole !))) (stop !))))) (from ! (stop !)) (init ! 18 refl (tt, tt)) $
         assigns ! (agg ! (and-then ! (load ! (from ! (stop !)) (look ! 18 refl)) (and-then ! (load ! (from ! (fld ! refl (stop !))) (look-in ! 5 (sub ! 1 refl (whole !)))) (no-more !)))) (from ! (stop !)) (init ! 19 refl (tt, (tt, (record { fits = room₂ .0 }, tt)))) $
-        join ! $ use3 W (raw (Each 𝓤 H A mem run .pre to-each)) (goes-each (nltb→le (length bs) n h, nltb→le (placeOf foreign ys) n k)) $
+        join ! $ use3 W (raw (Each 𝓤 H A mem run .pre to-each)) (goes-each (nltb→le (length bs) n h)) $
         calls-at ! fm (Each 𝓤 H A mem run) ticks to-each (and-then ! (load ! (from ! (stop !)) (look ! 14 refl)) (and-then ! (load ! (from ! (stop !)) (look ! 16 refl)) (no-more !))) (λ v.
         use1 W (later (some (λ (r : Unit {0}). ((‵ (flft κ₁ q₁) ⊛ (‵ (flft κ₂ q₂) ⊛ ‵ ftrue)) ⊛ ‵ (Nothing .own r (v ∷ []))) ⊛ raw (ensured 𝓤 H A each.ended (each.clauses 𝓤 H A mem run) (κ₁, (κ₂, tt)) x tt r)))) (id⊢ 𝓤 _) $ await ! tt $ pick ! (λ r. split ! $ move ! (1 ∷ []) $
         use1 W (some (λ (zw : List Core × (List ℕ × Unit {0})). ‵ (lasts each.ended (κ₁, (κ₂, tt)) x zw) ⊛ (raw (fact 𝓤 (zw .0 ≡ map (step tick) ys)) ⊛ raw (fact 𝓤 (zw .1 .0 ≡ written ys bs))))) (id⊢ 𝓤 _) $ pick ! (λ zw. split ! $ move ! (1 ∷ []) $ split ! $
