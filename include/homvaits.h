@@ -4,12 +4,14 @@
  * thread, and it needs nothing but memcpy and memset.
  *
  * Every call takes any bytes and any numbers, and always returns. What the caller must see to:
- * - a pointer is valid for its length; where the length is 0 it may be anything but null;
+ * - homvaits_layout() is HOMVAITS_LAYOUT; else no other call may be made;
+ * - a pointer is valid for its length. Where the length is 0 it is not looked at, and may be anything, null too. Null with a length above
+ *   0 is not refused: the program crashes where it is read or written, as with any pointer that is not valid;
  * - an output does not overlap an input, and nothing else writes either during a call.
  *
- * Every answer has a `refusal`: 0 where nothing is refused, else one of the numbers below, with its `place`. The rules of a call are
- * applied in the order given at the call, and the first that is broken is the answer. A refused call writes no byte of an output, and
- * hands a state back as it was given. Fields of an answer that do not apply are 0 and mean nothing.
+ * Every answer that is a struct has a `refusal`: 0 where nothing is refused, else one of the numbers below, with its `place`. The rules
+ * of a call are applied in the order given at the call, and the first that is broken is the answer. A refused call writes no byte of an
+ * output, and hands a state back as it was given. Fields of an answer that do not apply are 0 and mean nothing.
  *
  * A sheet is of version 1, 2 or 3. In version 1 the tasks stand by their numbers, and each names its core. In version 2 they stand core by
  * core, each core by priority, for printing: a task has its number of version 1, its old number, where version 1 names the core, and a core
@@ -30,6 +32,7 @@
 extern "C" {
 #endif
 
+#define HOMVAITS_LAYOUT 1u      /* the number of the structs and signatures below, raised whenever one of them changes */
 #define HOMVAITS_SHEET_MAX 712u /* bytes of the longest sheet, and the least output of homvaits_plan and homvaits_move */
 #define HOMVAITS_TEXT_MAX 8192u /* the least output of homvaits_list, enough for every listing */
 #define HOMVAITS_IDLE 255u      /* homvaits_ticked.task, or an answer byte of homvaits_tick_row, where no task was pending */
@@ -136,6 +139,54 @@ typedef struct homvaits_moved {
     uint16_t place;
     uint16_t length; /* of the sheet, which stands at the front of the output */
 } homvaits_moved;
+
+/* The layout: the size of each struct in bytes, and where the fields of a state and of the answers with a state stand. */
+#ifdef __cplusplus
+#define HOMVAITS_ASSERT(fact, text) static_assert(fact, text)
+#else
+#define HOMVAITS_ASSERT(fact, text) _Static_assert(fact, text)
+#endif
+#define HOMVAITS_SIZE(type, size) HOMVAITS_ASSERT(sizeof(type) == (size), "the size of " #type)
+#define HOMVAITS_AT(type, field, at) HOMVAITS_ASSERT(offsetof(type, field) == (at), "the offset of " #field " in " #type)
+
+HOMVAITS_SIZE(homvaits_task, 10);
+HOMVAITS_AT(homvaits_task, period, 0);
+HOMVAITS_AT(homvaits_task, budget, 2);
+HOMVAITS_AT(homvaits_task, age, 4);
+HOMVAITS_AT(homvaits_task, left, 6);
+HOMVAITS_AT(homvaits_task, number, 8);
+HOMVAITS_AT(homvaits_task, stroke, 9);
+HOMVAITS_SIZE(homvaits_core, 656);
+HOMVAITS_AT(homvaits_core, count, 0);
+HOMVAITS_AT(homvaits_core, tasks, 8);
+HOMVAITS_AT(homvaits_core, stroke_task, 648);
+HOMVAITS_AT(homvaits_core, stroke_left, 649);
+HOMVAITS_SIZE(homvaits_step, 664);
+HOMVAITS_AT(homvaits_step, refusal, 0);
+HOMVAITS_AT(homvaits_step, place, 2);
+HOMVAITS_AT(homvaits_step, core, 8);
+HOMVAITS_SIZE(homvaits_ticked, 664);
+HOMVAITS_AT(homvaits_ticked, refusal, 0);
+HOMVAITS_AT(homvaits_ticked, place, 2);
+HOMVAITS_AT(homvaits_ticked, task, 4);
+HOMVAITS_AT(homvaits_ticked, core, 8);
+HOMVAITS_SIZE(homvaits_checked, 6);
+HOMVAITS_SIZE(homvaits_planned, 8);
+HOMVAITS_SIZE(homvaits_row_ticked, 16);
+HOMVAITS_SIZE(homvaits_listed, 6);
+HOMVAITS_SIZE(homvaits_margined, 8);
+HOMVAITS_SIZE(homvaits_moved, 6);
+#undef HOMVAITS_AT
+#undef HOMVAITS_SIZE
+#undef HOMVAITS_ASSERT
+
+/* The number of the layout that the library was built with. Call it once, before any other call: if it is not HOMVAITS_LAYOUT, header and
+ * library do not belong together, a call could read or write past the caller's structs, and nothing else may be called. Its own signature
+ * never changes. */
+uint32_t homvaits_layout(void);
+
+/* The same number. The name has it too, so a program that refers to this symbol does not link with a library of another layout. */
+uint32_t homvaits_layout_1(void);
 
 /* Checks a sheet of any version. Accepted: it is a sheet and every core fits; the answer has its counts.
  *

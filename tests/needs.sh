@@ -15,7 +15,7 @@ same() { # what, expected words, found words
     [ "$2" = "$3" ] || fail "$1: expected '$2', found '$3'"
 }
 
-calls="check finish list margin move plan release start start_list tick tick_row"
+calls="check finish layout layout_1 list margin move plan release start start_list tick tick_row"
 same "undefined symbols" "memcpy memset" "$(nm -u "$lib" | awk 'NF == 2 { print $2 }' | sort -u | xargs)"
 same "public symbols" "$(printf 'homvaits_%s\n' $calls | xargs)" "$(nm -g --defined-only "$lib" | awk 'NF == 3 { print $3 }' | sort -u | xargs)"
 same "writable symbols" "" "$(nm --defined-only "$lib" | awk 'NF == 3 && $2 ~ /[bBcCdDgGsSuvVwW]/ { print $3 }' | xargs)"

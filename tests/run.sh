@@ -17,6 +17,7 @@ cargo test -q --release --offline -p compare
 (cd ../rust/homvaits && cargo test -q --release --offline)
 (cd ../rust/command && cargo test -q --release --offline)
 ./c.sh
+./layout.sh
 ./needs.sh
 ./programs.sh
 ./command.sh "${1:-1}"

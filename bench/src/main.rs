@@ -13,6 +13,7 @@ fn main() {
     let seed = std::env::args().nth(1).map_or(1, |argument| {
         argument.parse().expect("the argument is a number: seed")
     });
+    binding::assert_layout();
     let mut rng = Rng::new(seed);
     let sheets = workload::sheets(&mut rng, 100_000);
     check(&sheets, 1);

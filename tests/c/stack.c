@@ -16,7 +16,7 @@ __asm__(".globl nothing\nnothing: mov %rdi, %rax\n ret\n.section .note.GNU-stack
 
 #define CALLS(X) \
     X(check, 0) X(plan, 0) X(start, 0) X(start_list, 0) X(release, 1) X(finish, 1) X(tick, 1) X(tick_row, 0) \
-    X(list, 0) X(margin, 0) X(move, 0)
+    X(list, 0) X(margin, 0) X(move, 0) X(layout, 0) X(layout_1, 0)
 
 /* Called through these, so that a caller's frame is the same whatever stands there. */
 #define POINTER(name, by_value) static __typeof__(homvaits_##name) *volatile name = homvaits_##name;
@@ -26,6 +26,7 @@ static _Alignas(16) uint8_t stack[SIZE];
 static ucontext_t here, there;
 static uint8_t jobs[4 * JOBS], good[HOMVAITS_SHEET_MAX], grouped[HOMVAITS_SHEET_MAX], stroked[HOMVAITS_SHEET_MAX], sheet[HOMVAITS_SHEET_MAX];
 static uint8_t out[HOMVAITS_SHEET_MAX], text[HOMVAITS_TEXT_MAX];
+static uint32_t number;
 static homvaits_checked checked;
 static homvaits_planned planned;
 static homvaits_step step;
@@ -37,6 +38,8 @@ static homvaits_moved moved;
 static homvaits_core fresh, busy, row[ROW];
 static uint8_t answers[ROW];
 
+static void run_layout(void) { number = layout(); }
+static void run_layout_1(void) { number = layout_1(); }
 static void run_check(void) { checked = check(sheet, sizeof sheet); }
 static void run_plan(void) { planned = plan(jobs, sizeof jobs, 8, 0, sheet, sizeof sheet); }
 static void run_start(void) { step = start(sheet, sizeof sheet, 0); }

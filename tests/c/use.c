@@ -6,7 +6,8 @@
 #include <stdio.h>
 #include <string.h>
 
-/* The layout, as in rust/homvaits/src/layout.rs: sizes, and of each field its offset and width. */
+/* The layout, as in rust/homvaits/src/layout.rs: sizes, and of each field its offset and width. HOMVAITS_LAYOUT is its number. */
+static_assert(HOMVAITS_LAYOUT == 1, "the number of the layout");
 #define SIZE(type, size) static_assert(sizeof(homvaits_##type) == (size), #type)
 #define FIELD(type, field, at, width) \
     static_assert(offsetof(homvaits_##type, field) == (at) && sizeof(((homvaits_##type *)0)->field) == (width), #type "." #field)
@@ -521,7 +522,48 @@ static void rows(void) {
     assert(homvaits_release(row[0], 3).refusal == 0 && row[1].tasks[1].left == 5);
 }
 
+/* Every slice with a length of 0, as null: a pointer that is not looked at. */
+static void null_slices(void) {
+    uint8_t text[HOMVAITS_TEXT_MAX], sheet[HOMVAITS_SHEET_MAX], answers[2] = {170, 170};
+    const unsigned job[1][2] = {{5, 1}};
+    uint8_t list[4];
+    size_t len = jobs_of(list, job, 1);
+    homvaits_core row[1];
+
+    homvaits_checked checked = homvaits_check(NULL, 0);
+    assert(checked.refusal == HOMVAITS_STUB && checked.place == 0);
+    homvaits_step step = homvaits_start(NULL, 0, 0);
+    assert(step.refusal == HOMVAITS_STUB && step.core.count == 0);
+
+    /* an empty list is planned, and its sheet is the header */
+    homvaits_planned planned = homvaits_plan(NULL, 0, 8, 0, sheet, sizeof sheet);
+    assert(planned.refusal == 0 && planned.tasks == 0 && planned.cores == 0 && planned.length == 8);
+    assert(planned_as(homvaits_plan(NULL, 0, 8, 1, sheet, sizeof sheet), HOMVAITS_START, 0));
+    assert(planned_as(homvaits_plan(NULL, 0, 8, 0, NULL, 0), HOMVAITS_TIGHT, 0));
+    assert(planned_as(homvaits_plan(list, len, 8, 0, NULL, 0), HOMVAITS_TIGHT, 0));
+    step = homvaits_start_list(NULL, 0);
+    assert(step.refusal == 0 && step.core.count == 0 && homvaits_tick(step.core).task == HOMVAITS_IDLE);
+    assert(margined_as(homvaits_margin(NULL, 0, 0), HOMVAITS_UNLISTED, 0, 0));
+
+    homvaits_listed listed = homvaits_list(NULL, 0, text, sizeof text);
+    assert(listed.refusal == 0 && listed.length == 18 && memcmp(text, "refused 1 place 0\n", 18) == 0);
+    assert(homvaits_list(NULL, 0, NULL, 0).refusal == HOMVAITS_TIGHT);
+    assert(homvaits_list(full, sizeof full, NULL, 0).refusal == HOMVAITS_TIGHT);
+    assert(moved_as(homvaits_move(NULL, 0, sheet, sizeof sheet), HOMVAITS_STUB, 0, 0));
+    assert(moved_as(homvaits_move(NULL, 0, NULL, 0), HOMVAITS_STUB, 0, 0));
+    assert(moved_as(homvaits_move(full, sizeof full, NULL, 0), HOMVAITS_TIGHT, 0, 0));
+
+    row[0] = homvaits_start(full, sizeof full, 0).core;
+    assert(row_ticked_as(homvaits_tick_row(NULL, 0, NULL, 0), 0, 0));
+    assert(row_ticked_as(homvaits_tick_row(NULL, 0, answers, sizeof answers), 0, 0));
+    assert(row_ticked_as(homvaits_tick_row(row, 0, NULL, 0), 0, 0));
+    assert(row_ticked_as(homvaits_tick_row(row, 1, NULL, 0), HOMVAITS_ROW, 0));
+    assert(answers[0] == 170 && answers[1] == 170);
+}
+
 int main(void) {
+    assert(homvaits_layout() == HOMVAITS_LAYOUT && homvaits_layout_1() == HOMVAITS_LAYOUT);
+    null_slices();
     check_refusals();
     plan_refusals();
     list_refusals();

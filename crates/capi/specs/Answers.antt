@@ -1,5 +1,6 @@
 -- The C answers: `refusal` is 0 where nothing is refused, else the refusal's number (docs/SHEET.md, section 9); fields that do not apply
 -- are 0.
+use Prim.Native.Nat.{ℕ}
 use lib.IntN.{pos}
 use Rattle.checker.specs.Verdict as check
 use Rattle.planner.specs.Plan as plan
@@ -17,6 +18,10 @@ use Rattle.capi.specs.declared.StepAnswer.{StepAnswer}
 use Rattle.capi.specs.declared.Ticked.{Ticked}
 use Rattle.capi.specs.declared.RowTicked.{RowTicked}
 use Rattle.capi.specs.declared.Margined.{Margined}
+
+-- the number of the layout of structs and signatures of include/homvaits.h; raised whenever one of them changes
+unfoldable pub layout : ℕ
+layout = 1
 
 -- what the checker, the planner and the listing answer
 unfoldable pub checkedOf : check.Outcome → Checked

@@ -17,7 +17,7 @@ ghost use Rattle.row.specs.OnTime.{RowRuns};
 ghost use Rattle.margin.specs.Answers.{marginAnswer};
 ghost use Rattle.margin.specs.Exact.{Exact};
 ghost use Rattle.mover.specs.Answers.{moveVerdict, moveAnswer, moveOutput};
-ghost use Rattle.capi.specs.Answers.{checkedOf, plannedOf, listedOf, steppedOf, tickedOf, rowTickedOf, marginedOf, movedOf};
+ghost use Rattle.capi.specs.Answers.{layout, checkedOf, plannedOf, listedOf, steppedOf, tickedOf, rowTickedOf, marginedOf, movedOf};
 ghost use Rattle.capi.specs.Moved.{RunsAlike};
 ghost use Rattle.capi.specs.Planned.{RunsOnTime};
 use checker::Verdict;
@@ -87,6 +87,23 @@ pub struct Margined {
     pub refusal: u8,
     pub place: u16,
     pub margin: i32,
+}
+
+const LAYOUT: u32 = 1;
+
+#[no_mangle]
+pub extern "C" fn homvaits_layout() -> u32
+    ensures { λ r. ⌜ r ≡ layout ⌝ }
+{
+    LAYOUT
+}
+
+// The same, under a name that has the number, for linkers and build scripts.
+#[no_mangle]
+pub extern "C" fn homvaits_layout_1() -> u32
+    ensures { λ r. ⌜ r ≡ layout ⌝ }
+{
+    homvaits_layout()
 }
 
 #[no_mangle]

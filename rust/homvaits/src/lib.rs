@@ -42,8 +42,10 @@
 //! # The library
 //!
 //! The crate links `target/staticlib/libcapi.a` of the repository, which `rt staticlib capi` writes for x86-64 Linux, or the file whose
-//! whole path is in the environment variable `HOMVAITS_LIB` at build time. Crate and library belong together: a number or place that
-//! only another version of the library can give is handed on as [`Word::Other`] or [`Place::Other`].
+//! whole path is in the environment variable `HOMVAITS_LIB` at build time. Crate and library belong together. Both know the number of the
+//! layout of structs and signatures, [`LAYOUT`]: the library has a symbol whose name ends with it, and the build script stops with an error
+//! that names both numbers where the library has another or none. A refusal or place that only another library of the same layout can give
+//! is handed on as [`Word::Other`] or [`Place::Other`].
 //!
 //! No call panics, and none uses a heap, a global or std.
 
@@ -54,12 +56,14 @@
 extern crate std;
 
 mod job;
+mod number;
 mod refusal;
 mod running;
 mod sheet;
 mod sys;
 
 pub use job::Job;
+pub use number::LAYOUT;
 pub use refusal::{Place, Refusal, Word};
 pub use running::{tick_row, Core, Stroke, Task};
 pub use sheet::{Sheet, SheetCore, SheetTask};

@@ -71,6 +71,8 @@ pub struct Moved {
 }
 
 extern "C" {
+    #[cfg(test)]
+    fn homvaits_layout() -> u32;
     pub fn homvaits_check(sheet: *const u8, len: usize) -> Checked;
     pub fn homvaits_plan(
         jobs: *const u8,
@@ -100,4 +102,11 @@ mod layout {
     use super::{Checked, Core, Listed, Margined, Moved, Planned, RowTicked, Step, Ticked};
     use crate::Task;
     include!("layout.rs");
+}
+
+#[cfg(test)]
+#[test]
+fn the_library_has_the_layout_of_the_crate() {
+    // SAFETY: it takes nothing.
+    assert_eq!(unsafe { homvaits_layout() }, crate::LAYOUT);
 }

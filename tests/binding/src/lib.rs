@@ -16,6 +16,7 @@ use reference::{Core, CoreAnswer, RowAnswer, TickAnswer};
 const _: () = assert!(size_of::<[Core; 2]>() == 2 * 656 && align_of::<Core>() == 8);
 
 extern "C" {
+    fn homvaits_layout() -> u32;
     fn homvaits_check(sheet: *const u8, len: usize) -> CheckAnswer;
     fn homvaits_plan(
         jobs: *const u8,
@@ -40,6 +41,14 @@ extern "C" {
     fn homvaits_list(sheet: *const u8, len: usize, out: *mut u8, out_len: usize) -> ListAnswer;
     fn homvaits_margin(jobs: *const u8, len: usize, number: u64) -> MarginAnswer;
     fn homvaits_move(sheet: *const u8, len: usize, out: *mut u8, out_len: usize) -> MoveAnswer;
+}
+
+include!("../../../rust/homvaits/src/number.rs");
+
+/// Fails where the library has another layout. To be called once, before the others.
+pub fn assert_layout() {
+    let has = unsafe { homvaits_layout() };
+    assert_eq!(has, LAYOUT, "the layout of the library");
 }
 
 // Every call is total; it reads and writes only the slices it is lent, whose

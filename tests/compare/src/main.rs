@@ -28,6 +28,7 @@ fn main() {
     });
     let seed = arguments.next().unwrap_or(1);
     let rounds = arguments.next().unwrap_or(20);
+    binding::assert_layout();
 
     let mut session = Session::default();
     for round in 0..rounds {

@@ -22,6 +22,16 @@ fn wrong(_mistake: u32) -> bool {
     false
 }
 
+#[no_mangle]
+pub extern "C" fn homvaits_layout() -> u32 {
+    1
+}
+
+#[no_mangle]
+pub extern "C" fn homvaits_layout_1() -> u32 {
+    homvaits_layout()
+}
+
 /// # Safety
 /// `sheet` has `len` bytes; so in all calls below.
 #[no_mangle]
