@@ -1,5 +1,4 @@
 //! Random job lists and sheets, from a seed.
-#![allow(dead_code)]
 
 use homvaits::{plan, Job, Sheet};
 

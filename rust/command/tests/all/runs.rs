@@ -1,11 +1,9 @@
 //! `run`: every log is held against a dispatcher and an on-time rule of our own, and read back.
 
-mod common;
-
-use common::report::{holds, reads_back, table};
-use common::running::{read_log, unbroken, Answer, Call, CoreLog};
-use common::sheets::{full_core, sheet, strokes_of, task, two_cores, Sheet};
-use common::{example, text_of, Folder, Ran, Rng};
+use crate::common::report::{holds, reads_back, table};
+use crate::common::running::{read_log, unbroken, Answer, Call, CoreLog};
+use crate::common::sheets::{core, full_core, sheet, strokes_of, task, two_cores, Sheet};
+use crate::common::{example, text_of, Folder, Ran, Rng};
 
 /// Planned sheets and sheets made by hand, in one of the versions each.
 fn many_sheets(folder: &Folder, seed: u64, count: usize) -> Vec<(Sheet, Vec<u8>)> {
@@ -443,7 +441,7 @@ fn the_examples() {
 fn the_longest_periods() {
     let folder = Folder::new();
     let tasks = [task(60_000, 30_000, 0, 1), task(60_000, 30_000, 0, 1)];
-    let made = sheet(&tasks, &[common::sheets::core(60_000, 1)]);
+    let made = sheet(&tasks, &[core(60_000, 1)]);
     folder.write("a.tsh", made.by_number());
     let ran = folder.run(&["run", "a.tsh", "--ticks", "100000"]).ends(0);
     let rows = table(&ran.out);

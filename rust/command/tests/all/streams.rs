@@ -1,9 +1,7 @@
 //! Files and streams: standard input, pipes that break, devices that are full, outputs that cannot be written, odd files.
 
-mod common;
-
-use common::sheets::full_core;
-use common::{ended, finish, Folder, Ran, HOMVAITS};
+use crate::common::sheets::full_core;
+use crate::common::{ended, finish, Folder, Ran, HOMVAITS};
 use std::ffi::OsString;
 use std::fs;
 use std::io::{Read, Seek};

@@ -1,10 +1,8 @@
 //! The lines of README.md from planning to a picture and those on strokes, what it says that they print, and the pictures that it shows.
 
-mod common;
-
-use common::sheets::strokes_of;
-use common::svg::{read, shown};
-use common::{example, stored, Folder};
+use crate::common::sheets::strokes_of;
+use crate::common::svg::{read, shown};
+use crate::common::{example, stored, Folder};
 use std::path::{Path, PathBuf};
 
 fn root(name: &str) -> PathBuf {

@@ -1,12 +1,10 @@
 //! `draw`: stored pictures, and every tick and mark of a log in its row and place.
 
-mod common;
-
-use common::drawn::{draws, expected, letters};
-use common::running::{judge, read_log, CoreLog};
-use common::sheets::{full_core, strokes_of, two_cores, Sheet};
-use common::svg::{read, shown};
-use common::{example, stored, text_of, Folder, Rng};
+use crate::common::drawn::{draws, expected, letters};
+use crate::common::running::{judge, read_log, CoreLog};
+use crate::common::sheets::{full_core, strokes_of, two_cores, Sheet};
+use crate::common::svg::{read, shown};
+use crate::common::{example, finish, stored, text_of, Folder, Rng};
 use std::path::Path;
 
 /// Runs, draws and writes with letters with the same words, and holds the pictures against the log.
@@ -137,7 +135,7 @@ fn widths() {
         ("", 100),
     ] {
         let mut command = folder.command(&words);
-        let ran = common::finish(command.env("COLUMNS", columns), b"").ends(0);
+        let ran = finish(command.env("COLUMNS", columns), b"").ends(0);
         letters(&ran, &logs, width.max(100));
     }
 }

@@ -1,8 +1,6 @@
 //! Rows of cores: each core and answer byte is that of a tick on this core by itself.
 
-mod common;
-
-use common::{sheets, Rng};
+use crate::common::{sheets, Rng};
 use homvaits::{move_sheet, plan, tick_row, Core, Job, Place, Refusal, Sheet, Word, IDLE};
 
 /// A byte that no answer has.

@@ -1,11 +1,9 @@
 //! Logs that are given to `run --calls`: their lines, other answers, names, damage.
 
-mod common;
-
-use common::report::{holds, reads_back};
-use common::running::{read_log, Answer, Call};
-use common::sheets::{full_core, strokes_of, two_cores};
-use common::{Folder, Ran, Rng};
+use crate::common::report::{holds, reads_back};
+use crate::common::running::{read_log, Answer, Call};
+use crate::common::sheets::{full_core, strokes_of, two_cores};
+use crate::common::{Folder, Ran, Rng};
 
 #[test]
 fn lines_that_are_no_calls() {

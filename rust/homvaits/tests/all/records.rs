@@ -1,10 +1,8 @@
 //! The typed records of a sheet are held to the proved listing.
 
-mod common;
-
 use std::fmt::Write;
 
-use common::{sheets, Rng};
+use crate::common::{sheets, Rng};
 use homvaits::{check, list, move_sheet, plan, Core, Job};
 use homvaits::{Place, Refusal, Sheet, Word, LISTING_MAX};
 

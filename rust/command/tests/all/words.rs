@@ -1,9 +1,7 @@
 //! Words after the command: help, options, files, and what is wrong with them.
 
-mod common;
-
-use common::sheets::full_core;
-use common::{Folder, Rng};
+use crate::common::sheets::full_core;
+use crate::common::{Folder, Rng};
 use std::ffi::{OsStr, OsString};
 use std::ops::RangeInclusive;
 use std::os::unix::ffi::OsStringExt;

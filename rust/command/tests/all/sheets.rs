@@ -1,10 +1,8 @@
 //! `check`, `list`, `explain` and `move` of sheets: good ones, and one for every refusal.
 
-mod common;
-
-use common::damages::{damages, word, Damage, Place};
-use common::sheets::*;
-use common::{numbers, Folder, Ran, Rng};
+use crate::common::damages::{damages, word, Damage, Place};
+use crate::common::sheets::*;
+use crate::common::{numbers, Folder, Ran, Rng};
 
 /// Good sheets: those of the specification, the longest, the empty one, and some at the ends of the ranges.
 fn good() -> Vec<Sheet> {

@@ -1,9 +1,7 @@
 //! Job lists: `plan` and `margins`.
 
-mod common;
-
-use common::sheets::{core, sheet, task, Sheet};
-use common::{example, numbers, text_of, Folder, Ran, Rng};
+use crate::common::sheets::{core, full_core, longest, sheet, task, Sheet};
+use crate::common::{example, numbers, text_of, Folder, Ran, Rng};
 
 type Jobs = [(u16, u16)];
 /// Pivot and divisor.
@@ -320,7 +318,7 @@ fn sixty_four_jobs_and_one_more() {
     let folder = Folder::new();
     let jobs = "8 1\n".repeat(64);
     let ran = folder.run_on(&["plan", "-", "-o", "-"], &jobs).ends(0);
-    assert_eq!(ran.bytes, common::sheets::longest().by_number());
+    assert_eq!(ran.bytes, longest().by_number());
     folder.run_on(&["margins", "-"], &jobs).ends(1);
     let more = format!("# {}\n\n{jobs}\n8 1\nnot a line\n", "x".repeat(300));
     for words in [
@@ -562,10 +560,7 @@ fn what_is_left_of_an_old_file() {
     let there = ["bad.jobs", "fit.jobs", "full.jobs", "old.tsh"];
     assert_eq!(folder.names(), there, "nothing is left beside");
     folder.run(&["plan", "fit.jobs", "-o", "old.tsh"]).ends(0);
-    assert_eq!(
-        folder.read("old.tsh"),
-        common::sheets::full_core().by_number()
-    );
+    assert_eq!(folder.read("old.tsh"), full_core().by_number());
     assert_eq!(folder.names(), there, "nothing is left beside");
 }
 
@@ -573,7 +568,7 @@ fn what_is_left_of_an_old_file() {
 fn a_sheet_on_standard_output_stands_alone() {
     let folder = Folder::new();
     let ran = planned(&folder, &[(5, 1), (9, 7)], &["--all-starts"]).ends(0);
-    assert_eq!(ran.bytes, common::sheets::full_core().by_number());
+    assert_eq!(ran.bytes, full_core().by_number());
     let ran = planned(
         &folder,
         &[(5, 1), (9, 9), (7, 7)],

@@ -1,11 +1,9 @@
 //! `check` of many files: folders, links, odd names, JSON, a hundred thousand sheets.
 
-mod common;
-
-use common::damages::damages;
-use common::json::Json;
-use common::sheets::{full_core, longest, two_cores};
-use common::{numbers, Folder, Ran};
+use crate::common::damages::damages;
+use crate::common::json::Json;
+use crate::common::sheets::{full_core, longest, two_cores};
+use crate::common::{numbers, Folder, Ran};
 use std::ffi::OsString;
 use std::fs;
 use std::os::unix::ffi::OsStringExt;

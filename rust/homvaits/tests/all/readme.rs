@@ -52,7 +52,7 @@ fn two_cores_run() -> Result<(), Refusal> {
 
 #[test]
 fn the_lines_of_the_readme_stand_here() {
-    let readme = include_str!("../../../README.md");
+    let readme = include_str!("../../../../README.md");
     let lines = |text: &'static str| -> Vec<&str> { text.lines().map(str::trim).collect() };
     let here = lines(include_str!("readme.rs"));
     let blocks: Vec<Vec<&str>> = readme

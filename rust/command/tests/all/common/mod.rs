@@ -1,5 +1,4 @@
 //! What the tests of the command share: a folder, the command in it, sheets byte by byte, random numbers.
-#![allow(dead_code)]
 
 pub mod damages;
 pub mod drawn;
