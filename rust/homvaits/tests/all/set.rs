@@ -196,6 +196,24 @@ fn a_finish_ends_the_stroke_of_its_own_job_alone() {
 }
 
 #[test]
+fn a_load_of_650_leaves_no_room_above_a_stroke() {
+    // 2 ticks every 10, 9 every 20 in one stroke, and 1 every 10
+    let tasks = [
+        [10, 0, 2, 0, 0, 1, 1, 0, 0, 0],
+        [20, 0, 9, 0, 0, 9, 2, 0, 0, 0],
+        [10, 0, 1, 0, 0, 1, 1, 0, 0, 0],
+    ];
+    let of = |count: u8| {
+        let header = [b'T', b'S', b'H', 3, 0, count, 1, 0];
+        let tasks = tasks[..usize::from(count)].as_flattened();
+        Sheet::check(&[&header, tasks, &[10, 0, 0, 0, 1, 0, 0, 0]].concat())
+    };
+    let loads: Vec<u16> = of(2).unwrap().cores().map(|core| core.load).collect();
+    assert_eq!(loads, [650]);
+    assert_eq!(of(3), Err(refusal(Word::Overload, Place::Core(0))));
+}
+
+#[test]
 fn strokes_of_one_tick_run_as_version_1() {
     let mut plain = Core::start(&plan(&JOBS, 1, 0).unwrap(), 0).unwrap();
     let mut core = Core::start(&in_strokes_of(1), 0).unwrap();
