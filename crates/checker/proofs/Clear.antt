@@ -4,7 +4,6 @@ use Prim.Native.Nat.{ℕ, _-_, _*_, _≤_, _<_}
 use mathlib.Core.Path.{_≡_, sym, ap, _∙_}
 use mathlib.Core.Bool.{Bool}
 use mathlib.Core.List.{List}
-use native.Mathlib.Nat.{le-trans}
 use native.Mathlib.Omega.{arith}
 use lib.ListN.{length, take, drop, length-drop}
 use Rattle.sheet.specs.declared.Refusal.{Refusal}
@@ -20,21 +19,14 @@ use Rattle.checker.specs.Rules.{frameRows, spareRows, taskRows, coreRows
 use Rattle.checker.specs.declared.Verdict.{Verdict}
 use Rattle.checker.specs.Verdict.{accepted, refused, outcome, outcomeOf, verdict}
 use Rattle.checker.specs.Steps.{InRange, earlyRows}
-use Rattle.checker.proofs.Acceptance.{frame-kept, tasks-kept, cores-kept}
+use Rattle.checker.proofs.Acceptance.{frame-kept, cores-kept}
 
--- what rule 14 needs, where rules 7 to 12 are kept
-pub clear-range : (b : Bool) (f : Figures) (s : Finding) → f .tasks ≤ 64 → findingOf s ≡ scan (earlyRows b f) → s ≡ Clear → (k : ℕ) → k < f .cores → InRange f k
+-- what rules 13 and 14 need, where rules 7 to 12 are kept
+pub clear-range : (b : Bool) (f : Figures) (s : Finding) → f .tasks ≤ 64 → findingOf s ≡ scan (earlyRows b f) → s ≡ Clear → InRange f
 unfolding earlyRows
-clear-range b f s n e q k h =
+clear-range b f s n e q =
     let rows = scan-clears (taskRows b f) (coreRows f) (sym (ap findingOf q) ∙ e) in
-    let t = tasks-kept b f (rows .0) .1 in
-    let g = cores-kept f (rows .1) in
-    record {
-      count = n;
-      factors = λ i z. g .factor i z .0;
-      strokes = λ i z. le-trans (t .stroke i z .1) (le-trans (t .budget i z .1) (t .period i z .1));
-      divisor = g .divisor k h .1;
-    }
+    record { count = n; factors = λ i z. cores-kept f (rows .1) .factor i z .0 }
 
 -- the ways out of all rules, with the code's parts of the sheet
 module _ (s : List ℕ) (r : Finding) (w : Refusal) (p : ℕ) where

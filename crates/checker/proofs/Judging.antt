@@ -17,14 +17,13 @@ use Rattle.fit.specs.declared.Chain.{Chain}
 use Rattle.fit.specs.declared.Chain.the-variants.{Whole, Broken}
 use Rattle.fit.specs.Lists.{numbers, find, findSome, at, Each}
 use Rattle.fit.specs.Priority.{order, tasksOn, Above}
-use Rattle.fit.specs.Steps.{overFromFirst}
+use Rattle.fit.specs.Fits.{Multiples, levelOverloaded}
 use Rattle.fit.specs.Answers.{Column, Ordered, chainAnswer, chained}
 use Rattle.fit.proofs.Lists.{each-of}
 use Rattle.fit.proofs.Finds.{front}
 use Rattle.fit.proofs.Priority.{order-members, order-ext}
 use Rattle.fit.proofs.Presorted.{order-sorted}
 use Rattle.fit.proofs.Levels.{chain-multiples}
-use Rattle.fit.proofs.Blocking.{over-exactly}
 use Rattle.checker.specs.declared.fits.Judged.{Judged}
 use Rattle.checker.specs.declared.fits.Judged.the-variants.{Chained, Unchained}
 use Rattle.fit.specs.Cores.{orderOn}
@@ -50,7 +49,7 @@ unfolding chainAnswer
 answer-whole none L m e = refl
 answer-whole (some j) L m e = absurd (let z : _≡_ {A = ℕ} 0 1 = cc in omega arith)
 
-module _ (f : Figures) (k : ℕ) (periods : List ℕ) (o : Order) (chain : Chain) (r : InRange f k) (column : Column (f .period) (min (f .tasks) 64) periods) (s : Ordered (order (at periods) (f .core) k (min (f .tasks) 64)) o) (h : chain ≡ chained (f .factor) (take (o .count) (o .tasks))) where
+module _ (f : Figures) (k : ℕ) (periods : List ℕ) (o : Order) (chain : Chain) (r : InRange f) (column : Column (f .period) (min (f .tasks) 64) periods) (s : Ordered (order (at periods) (f .core) k (min (f .tasks) 64)) o) (h : chain ≡ chained (f .factor) (take (o .count) (o .tasks))) where
   listed : take (o .count) (o .tasks) ≡ orderOn f k
   unfolding orderOn
   listed =
@@ -61,7 +60,7 @@ module _ (f : Figures) (k : ℕ) (periods : List ℕ) (o : Order) (chain : Chain
   unfolding judged chained chainBreakOn
   judge-broken i e = rw (← listed, answer-broken _ _ i (sym e ∙ h))
 
-  module _ (last Q D : ℕ) (b : Bool) (e : chain ≡ Whole last) (eq : Q ≡ f .pivot k) (ed : D ≡ f .divisor k) (t : b ≡ overFromFirst (f .budget) (f .stroke) (f .factor) Q D (take (o .count) (o .tasks))) where
+  module _ (last Q D : ℕ) (b : Bool) (e : chain ≡ Whole last) (eq : Q ≡ f .pivot k) (ed : D ≡ f .divisor k) (t : Multiples (f .factor) 1 (take (o .count) (o .tasks)) → Each (λ i. 0 < f .factor i) (take (o .count) (o .tasks)) → b ≡ levelOverloaded (f .budget) (f .stroke) (f .factor) Q D (take (o .count) (o .tasks))) where
     whole : chainBreakOn f k ≡ none
     unfolding chained chainBreakOn
     whole = rw (← listed) (answer-whole _ _ last (sym e ∙ h))
@@ -73,9 +72,8 @@ module _ (f : Figures) (k : ℕ) (periods : List ℕ) (o : Order) (chain : Chain
     over : b ≡ overloadedOn f k
     unfolding overloadedOn chainBreakOn
     over =
-        t
+        t (rw listed (chain-multiples (f .factor) 1 (orderOn f k) whole)) (rw listed (each-of _ (λ i m. r .factors i (m .0)) members))
         ∙ rw (listed, eq, ed)
-        (over-exactly (f .budget) (f .stroke) (f .factor) (f .pivot k) (f .divisor k) 60000 (orderOn f k) (chain-multiples (f .factor) 1 (orderOn f k) whole) (each-of _ (λ i m. r .factors i (m .0)) members) (each-of _ (λ i m. r .strokes i (m .0)) members) (omega (arith, r .divisor)))
 
     pub judge-whole : Chained b ≡ judged (chainBreakOn f k) (overloadedOn f k)
     unfolding judged

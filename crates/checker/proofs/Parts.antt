@@ -65,7 +65,7 @@ module _ (grouped stroked : Bool) (records cores on : List ℕ) (n c : ℕ) (aft
         sym (order-same (at on) (coreByCounts (countAt cores) c) n c (counted g) (periodAt records) (numberAt records) (countAt cores)) ∙ sym kept ∙ clear-order b f t e h
 
     -- what rules 13 and 14 need
-    pub part-ready : ((k : ℕ) → k < c → InRange f k) × (grouped ≡ true → Sorted f)
+    pub part-ready : InRange f × (grouped ≡ true → Sorted f)
     unfolding Sorted
     part-ready = (
       clear-range b f t few e h,

@@ -49,9 +49,7 @@ earlyRows misordered f = taskRows misordered f ++ coreRows f
 unfoldable pub Sorted : Figures → Type 0
 Sorted f = (i j : ℕ) → i < j → j < f .tasks → f .core i ≡ f .core j → Above (f .period) i j
 
--- what rule 14's one pass needs of core k: at most 64 tasks, every M positive, every stroke at most 60,000 ticks and D at most 120,000
-pub record InRange (f : Figures) (k : ℕ) : Type 0 where
+-- what rules 13 and 14 need of the figures: at most 64 tasks, and every M above 0
+pub record InRange (f : Figures) : Type 0 where
   pub count : f .tasks ≤ 64
   pub factors : (i : ℕ) → i < f .tasks → 0 < f .factor i
-  pub strokes : (i : ℕ) → i < f .tasks → f .stroke i ≤ 60000
-  pub divisor : f .divisor k ≤ 120000

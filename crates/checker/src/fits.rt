@@ -45,7 +45,7 @@ fn judge(
     c: u8,
     k: u8,
 ) -> Judged
-    requires { ⌜ InRange (figuresWith (at (now on)) (strokeOfPosition stroked (now tasks)) n c (now tasks) (now cores)) k × Column (periodAt (now tasks)) (min n 64) (now periods) × (sorted ≡ true → Sorted (figuresWith (at (now on)) (strokeOfPosition stroked (now tasks)) n c (now tasks) (now cores))) ⌝ }
+    requires { ⌜ InRange (figuresWith (at (now on)) (strokeOfPosition stroked (now tasks)) n c (now tasks) (now cores)) × Column (periodAt (now tasks)) (min n 64) (now periods) × (sorted ≡ true → Sorted (figuresWith (at (now on)) (strokeOfPosition stroked (now tasks)) n c (now tasks) (now cores))) ⌝ }
     ensures { λ r. ⌜ r ≡ judged (chainBreakOn (figuresWith (at (now (on .entry))) (strokeOfPosition stroked (now (tasks .entry))) n c (now (tasks .entry)) (now (cores .entry))) k) (overloadedOn (figuresWith (at (now (on .entry))) (strokeOfPosition stroked (now (tasks .entry))) n c (now (tasks .entry)) (now (cores .entry))) k) ⌝ }
 {
     let order = order_of(sorted, periods, on, n, k);
@@ -84,7 +84,7 @@ pub(crate) fn fit_rules(
     n: u8,
     c: u8,
 ) -> Finding
-    requires { ⌜ ((k : ℕ) → k < c → InRange (figuresWith (at (now on)) (strokeOfPosition stroked (now tasks)) n c (now tasks) (now cores)) k) × (sorted ≡ true → Sorted (figuresWith (at (now on)) (strokeOfPosition stroked (now tasks)) n c (now tasks) (now cores))) ⌝ }
+    requires { ⌜ InRange (figuresWith (at (now on)) (strokeOfPosition stroked (now tasks)) n c (now tasks) (now cores)) × (sorted ≡ true → Sorted (figuresWith (at (now on)) (strokeOfPosition stroked (now tasks)) n c (now tasks) (now cores))) ⌝ }
     ensures { λ r. ⌜ findingOf r ≡ scan (fitRows (figuresWith (at (now (on .entry))) (strokeOfPosition stroked (now (tasks .entry))) n c (now (tasks .entry)) (now (cores .entry)))) ⌝ }
 {
     let periods = fit::periods_of(tasks, 10, n);

@@ -13,9 +13,8 @@ use borrow.Author.Tests.{ltb-false, lt-ltb, le-ltb}
 use lib.Dec.{ltb}
 use lib.Seq.{append-snoc}
 use Rattle.sheet.proofs.Ranges.{neither}
-use Rattle.fit.specs.Lists.{sum, Each}
+use Rattle.fit.specs.Lists.{sum, at, Each}
 use Rattle.fit.specs.Fits.{Multiple, Multiples, lastFactor, load, exactLoad, fullLoad, overloaded, blocking, levelLoad, overloadedBelow, levelOverloaded, LevelsFit, within}
-use Rattle.fit.specs.Steps.{overAlong, overFromFirst}
 use Rattle.fit.proofs.Lists.{each-of, each-append, each-halves, each-split, each-between, sum-append}
 use Rattle.fit.proofs.Levels.{multiple-self, multiple-trans, load-scale, level-load}
 
@@ -36,6 +35,18 @@ module _ (e q M : ℕ → ℕ) (Q D : ℕ) where
   pub levels-fit-exactly : (l : List ℕ) → (levelOverloaded e q M Q D l ≡ false) ↔ LevelsFit e q M Q D l
   unfolding levelOverloaded LevelsFit
   levels-fit-exactly l = ((λ h xs i ys s. below-fits [] xs i ys (subst (λ (t : List ℕ). overloadedBelow e q M Q D [] t ≡ false) s h)), fits-below [] l)
+
+-- Rule 14 in one pass: `load` is the load of the tasks before the list at the last factor d among them, `room` the least that one of them has
+-- to spare. A stroke is over where it takes more than the room.
+unfoldable pub overAlong : (e q M : ℕ → ℕ) (Q D load d room : ℕ) → List ℕ → Bool
+overAlong e q M Q D load d room [] = false
+overAlong e q M Q D load d room (i ∷ l) =
+    let now : ℕ = load * (M i / d) + e i * D in
+    ltb room ((q i - 1) * D) || (ltb (Q * M i) now || overAlong e q M Q D now (M i) (min room (Q * M i - now)) l)
+
+-- before the first task there is nothing, and room for every stroke of one byte and every divisor of four
+unfoldable pub overFromFirst : (e q M : ℕ → ℕ) (Q D : ℕ) → List ℕ → Bool
+overFromFirst e q M Q D l = overAlong e q M Q D 0 1 1099511627776 l
 
 -- what the tests of the pass come to: a is the own stroke, b the longest of those below, f is Q × M and r the rest of the list
 one-room : (room a b f level : ℕ) (r : Bool) → (ltb room a || (ltb f level || (ltb (min room (f - level)) b || r))) ≡ (ltb room (max a b) || (ltb f (level + b) || r))
@@ -102,6 +113,11 @@ module _ (e q M : ℕ → ℕ) (Q D : ℕ) where
   over-exactly longest l m f s small =
       let room : blocking q l * D ≤ 1099511627776 = le-trans (mul-le-mul-right D (blocking-most q longest l (each-of l (λ i h. omega arith) s))) small in
       along-exactly 1 1099511627776 [] l (omega arith) (record { positive = tt; multiples = tt }) m f ∙ rw (le-ltb 1099511627776 (blocking q l * D) room)
+
+-- Where the factors are no chain, as 3, 2, 6, the pass and the rule differ.
+pub over-unchained : (overFromFirst (at (5 ∷ 1 ∷ 1 ∷ [])) (λ i. 1) (at (3 ∷ 2 ∷ 6 ∷ [])) 2 1 (0 ∷ 1 ∷ 2 ∷ []) ≡ false) × (levelOverloaded (at (5 ∷ 1 ∷ 1 ∷ [])) (λ i. 1) (at (3 ∷ 2 ∷ 6 ∷ [])) 2 1 (0 ∷ 1 ∷ 2 ∷ []) ≡ true)
+unfolding overFromFirst overAlong levelOverloaded overloadedBelow levelLoad load sum blocking
+over-unchained = (refl, refl)
 
 -- a list is empty or has a last task, whose factor is the last one
 pub data Ended : List ℕ → Type 0 where

@@ -31,7 +31,7 @@ slice-aggregate-judge : tie.Need-slice-aggregate-judge Inv-loop μ-loop
 slice-aggregate-judge c = search needs
 
 judge-requires : tie.Need-judge-requires Inv-loop μ-loop
-judge-requires c κs = (c .before .before .before .before .before .before .before .pre .0 _ (c .before .loop-test .taken), c .before .before .before .periods-of .ensures, c .before .before .before .before .before .before .before .pre .1)
+judge-requires c κs = (c .before .before .before .before .before .before .before .pre .0, c .before .before .before .periods-of .ensures, c .before .before .before .before .before .before .before .pre .1)
 
 enum-known-judged : tie.Need-enum-known-judged Inv-loop μ-loop
 enum-known-judged c = search needs
