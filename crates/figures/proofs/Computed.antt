@@ -7,7 +7,7 @@ use Rattle.fit.specs.Lists.{numbers, sum, select}
 use Rattle.fit.specs.Rounding.{ceiling}
 use Rattle.fit.specs.Fits.{lastFactor, load, overloaded}
 use Rattle.figures.specs.Constructions.{least, leastPower, largest, largestPower, sr, down, downs, up, ups, dct}
-use Rattle.figures.specs.Passing.{passes, first, eachPivot, atMost, inRange, trials, rising, taskSet, firstPassing}
+use Rattle.figures.specs.Passing.{passes, first, eachPivot, atMost, inRange, trials, sortedPeriods, taskSet, firstPassing}
 
 -- the factors by Sr on 2 with each pivot, by Sr on 3 with each, and by DCT with each
 pub trials-computed :
@@ -22,5 +22,5 @@ trials-computed = refl
 -- With a budget of 0 the skip shows: these pass by DCT with the first pivot. Sr on 3 with the second, factors 1, 59,049 and 177,147, would
 -- pass before it.
 pub skip-seen : firstPassing (1 ∷ 20000 ∷ 60000 ∷ []) (0 ∷ 10000 ∷ 30000 ∷ []) ≡ some (record { Q = 1; D = 1; factors = 1 ∷ 20000 ∷ 60000 ∷ [] })
-unfolding numbers sum select ceiling lastFactor load overloaded least leastPower largest largestPower sr down downs up ups dct passes first eachPivot atMost inRange trials rising taskSet firstPassing
+unfolding numbers sum select ceiling lastFactor load overloaded least leastPower largest largestPower sr down downs up ups dct passes first eachPivot atMost inRange trials sortedPeriods taskSet firstPassing
 skip-seen = refl

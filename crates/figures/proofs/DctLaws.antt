@@ -12,8 +12,8 @@ use Rattle.fit.specs.Fits.{Multiple}
 use Rattle.fit.specs.Rounding.{ceiling}
 use Rattle.fit.proofs.Ceiling.{ceiling-reaches, ceiling-before, ceiling-positive, ceiling-scale}
 use Rattle.figures.specs.Constructions.{down, downs, up, ups, dct}
-use Rattle.figures.specs.Meaning.{Rising, DctPeriods, Factors, Sound}
-use Rattle.figures.proofs.Sound.{rising-at}
+use Rattle.figures.specs.Meaning.{SortedPeriods, DctPeriods, Factors, Sound}
+use Rattle.figures.proofs.Sound.{sorted-at}
 
 -- one step down: the accelerated period q / d of a task with period p
 module _ (q p d : ℕ) (posq : 0 < q) (posp : 0 < p) (posd : 0 < d) where
@@ -39,13 +39,13 @@ module _ (q p d : ℕ) (posq : 0 < q) (posp : 0 < p) (posd : 0 < d) where
 
 -- the pivot has period q and ps after it; l is before it
 module _ (q : ℕ) (ps : List ℕ) where
-  pivot-positive : (a : ℕ) (l : List ℕ) → 0 < a → Rising a (l ++ q ∷ ps) → 0 < q
-  unfolding Rising
+  pivot-positive : (a : ℕ) (l : List ℕ) → 0 < a → SortedPeriods a (l ++ q ∷ ps) → 0 < q
+  unfolding SortedPeriods
   pivot-positive a [] pos r = omega (arith, r .0)
   pivot-positive a (p ∷ l) pos r = pivot-positive p l (omega (arith, r .0)) (r .2)
 
-  first-divisor : (a : ℕ) (l : List ℕ) → 0 < a → Rising a (l ++ q ∷ ps) → (0 < at (downs q l) 0) × (at (downs q l) 0 < 2 * q)
-  unfolding Rising downs
+  first-divisor : (a : ℕ) (l : List ℕ) → 0 < a → SortedPeriods a (l ++ q ∷ ps) → (0 < at (downs q l) 0) × (at (downs q l) 0 < 2 * q)
+  unfolding SortedPeriods downs
   first-divisor a [] pos r = (omega arith, omega (arith, r .0))
   first-divisor a (p ∷ l) pos r =
       let posp : 0 < p = omega (arith, r .0) in
@@ -58,15 +58,15 @@ module _ (q : ℕ) (ps : List ℕ) where
   downs-length [] = refl
   downs-length (p ∷ l) = ap suc (downs-length l)
 
-  pub downs-positive : (a : ℕ) (l : List ℕ) → 0 < a → Rising a (l ++ q ∷ ps) → (k : ℕ) → k ≤ length l → 0 < at (downs q l) k
-  unfolding Rising downs
+  pub downs-positive : (a : ℕ) (l : List ℕ) → 0 < a → SortedPeriods a (l ++ q ∷ ps) → (k : ℕ) → k ≤ length l → 0 < at (downs q l) k
+  unfolding SortedPeriods downs
   downs-positive a l pos r zero h = first-divisor a l pos r .0
   downs-positive a [] pos r (suc k) h = absurd (omega arith)
   downs-positive a (p ∷ l) pos r (suc k) h = downs-positive p l (omega (arith, r .0)) (r .2) k (omega arith)
 
   -- the factors D / d up to the pivot's, after a factor m, with others after D
-  down-factors : (D m a : ℕ) (l ms : List ℕ) → 0 < D → 0 < a → Rising a (l ++ q ∷ ps) → Multiple m (D / at (downs q l) 0) → Multiple (at (downs q l) 0) D → Factors q D D ps ms → Factors q D m (l ++ q ∷ ps) (map (λ d. D / d) (downs q l) ++ ms)
-  unfolding Rising Factors downs Multiple down
+  down-factors : (D m a : ℕ) (l ms : List ℕ) → 0 < D → 0 < a → SortedPeriods a (l ++ q ∷ ps) → Multiple m (D / at (downs q l) 0) → Multiple (at (downs q l) 0) D → Factors q D D ps ms → Factors q D m (l ++ q ∷ ps) (map (λ d. D / d) (downs q l) ++ ms)
+  unfolding SortedPeriods Factors downs Multiple down
   down-factors D m a [] ms posD pos r after whole rest =
       let same : D / 1 ≡ D = div-one D in
       (record { accelerated = rw same (le-refl (q * D)); multiple = after; positive = rw same posD }, rw same rest)
@@ -92,8 +92,8 @@ module _ (q : ℕ) (ps : List ℕ) where
       positive d (suc k) D h e = omega arith
 
 -- the factors D × m after the pivot
-up-factors : (q D m a : ℕ) (ps : List ℕ) → 0 < q → 0 < D → 0 < m → q * m ≤ a → Rising a ps → Factors q D (D * m) ps (map (λ x. D * x) (ups q m ps))
-unfolding Rising Factors ups up Multiple
+up-factors : (q D m a : ℕ) (ps : List ℕ) → 0 < q → 0 < D → 0 < m → q * m ≤ a → SortedPeriods a ps → Factors q D (D * m) ps (map (λ x. D * x) (ups q m ps))
+unfolding SortedPeriods Factors ups up Multiple
 up-factors q D m a [] posq posD posm h r = tt
 up-factors q D m a (p ∷ ps) posq posD posm h r =
     let x : ℕ = p / (q * m) in
@@ -120,25 +120,25 @@ unfolding Multiple
 multiple-of-self x = (1, sym (mul-one x))
 
 -- what stands after the pivot
-rising-after : (a q : ℕ) (l ps : List ℕ) → Rising a (l ++ q ∷ ps) → Rising q ps
-unfolding Rising
-rising-after a q [] ps r = r .2
-rising-after a q (p ∷ l) ps r = rising-after p q l ps (r .2)
+sorted-after : (a q : ℕ) (l ps : List ℕ) → SortedPeriods a (l ++ q ∷ ps) → SortedPeriods q ps
+unfolding SortedPeriods
+sorted-after a q [] ps r = r .2
+sorted-after a q (p ∷ l) ps r = sorted-after p q l ps (r .2)
 
-pub dct-sound : (ps : List ℕ) (i : ℕ) → Rising 1 ps → i < length ps → Sound 2 ps (dct ps i)
+pub dct-sound : (ps : List ℕ) (i : ℕ) → SortedPeriods 1 ps → i < length ps → Sound 2 ps (dct ps i)
 unfolding dct
 dct-sound ps i r h =
     let q : ℕ = at ps i in
     let l : List ℕ = take i ps in
     let rest : List ℕ = drop (suc i) ps in
     let split : ps ≡ l ++ q ∷ rest = split-at ps i 0 h in
-    let all : Rising 1 (l ++ q ∷ rest) = subst (Rising 1) split r in
-    let posq : 0 < q = rising-at 1 ps r i h .0 in
+    let all : SortedPeriods 1 (l ++ q ∷ rest) = subst (SortedPeriods 1) split r in
+    let posq : 0 < q = sorted-at 1 ps r i h .0 in
     let D : ℕ = at (downs q l) 0 in
     let (posD, bound) = first-divisor q rest 1 l (omega arith) all in
-    let above : Factors q D D rest (map (λ x. D * x) (ups q 1 rest)) = rw (mul-one D) at (up-factors q D 1 q rest posq posD (omega arith) (rw (mul-one q) (le-refl q)) (rising-after 1 q l rest all)) in
+    let above : Factors q D D rest (map (λ x. D * x) (ups q 1 rest)) = rw (mul-one D) at (up-factors q D 1 q rest posq posD (omega arith) (rw (mul-one q) (le-refl q)) (sorted-after 1 q l rest all)) in
     record {
-      pivot = (posq, rising-at 1 ps r i h .1);
+      pivot = (posq, sorted-at 1 ps r i h .1);
       divisor = (posD, bound);
       one = first-factor q (λ d. D / d) l _ ∙ div-self posD;
       factors = subst (λ (t : List ℕ). Factors q D 1 t (map (λ d. D / d) (downs q l) ++ map (λ x. D * x) (ups q 1 rest))) (sym split)
@@ -183,9 +183,9 @@ module _ (q D : ℕ) (posD : 0 < D) where
       positive zero h = absurd (omega (arith, mul-zero x))
       positive (suc y) h = omega arith
 
-  lower-at : (ps ms : List ℕ) (a : ℕ) (l : List ℕ) → 0 < a → Rising a (l ++ q ∷ ps) → Multiple (at (downs q l) 0) D → (k : ℕ) → k < length l
+  lower-at : (ps ms : List ℕ) (a : ℕ) (l : List ℕ) → 0 < a → SortedPeriods a (l ++ q ∷ ps) → Multiple (at (downs q l) 0) D → (k : ℕ) → k < length l
       → at (map (λ d. D / d) (downs q l) ++ ms) (suc k) ≡ at (map (λ d. D / d) (downs q l) ++ ms) k * ceiling (q * at (map (λ d. D / d) (downs q l) ++ ms) (suc k)) (at l k * D)
-  unfolding Rising downs Multiple down
+  unfolding SortedPeriods downs Multiple down
   lower-at ps ms a [] pos r whole k h = absurd (omega arith)
   lower-at ps ms a (p ∷ l) pos r whole zero h =
       let posp : 0 < p = omega (arith, r .0) in
@@ -203,7 +203,7 @@ ups-at q m (p ∷ l) zero h = refl
 ups-at q m (p ∷ l) (suc j) h = ups-at q (up q p m) l j (omega arith)
 
 -- the periods are the stated ones
-pub dct-periods : (ps : List ℕ) (i : ℕ) → Rising 1 ps → i < length ps → DctPeriods ps i (dct ps i .Q) (dct ps i .D) (at (dct ps i .factors))
+pub dct-periods : (ps : List ℕ) (i : ℕ) → SortedPeriods 1 ps → i < length ps → DctPeriods ps i (dct ps i .Q) (dct ps i .D) (at (dct ps i .factors))
 unfolding dct
 dct-periods ps i r h = record { pivot = pivot; up = λ k low high. upward (k - i) k (sym (add-sub-of-le low)) high; down = downward }
   where
@@ -216,8 +216,8 @@ dct-periods ps i r h = record { pivot = pivot; up = λ k low high. upward (k - i
     rest : List ℕ
     rest = drop (suc i) ps
 
-    all : Rising 1 (l ++ q ∷ rest)
-    all = subst (Rising 1) (split-at ps i 0 h) r
+    all : SortedPeriods 1 (l ++ q ∷ rest)
+    all = subst (SortedPeriods 1) (split-at ps i 0 h) r
 
     D : ℕ
     D = at (downs q l) 0

@@ -12,7 +12,7 @@ use mir.Syntax.{w32}
 use mir.Val.{Fits}
 use Rattle.fit.specs.Lists.{at, padded}
 use Rattle.figures.specs.Constructions.{down, downs, dct}
-use Rattle.figures.specs.Meaning.{Rising, DctPeriods, Sound}
+use Rattle.figures.specs.Meaning.{SortedPeriods, DctPeriods, Sound}
 use Rattle.figures.specs.Steps.{Ready}
 use Rattle.figures.specs.Answers.{written}
 use Rattle.figures.proofs.Lists.{at-map}
@@ -215,7 +215,7 @@ module _ (ps : List ℕ) (c : ℕ) (list : List ℕ) (r : Ready ps c) (e : list 
 
   pub dct-positive : (k : ℕ) → k ≤ c → 0 < at list k
   dct-positive k h =
-      let all : Rising 1 (take c ps ++ at ps c ∷ drop (suc c) ps) = subst (Rising 1) (split-at ps c 0 (r .inside)) (periods ps c r) in
+      let all : SortedPeriods 1 (take c ps ++ at ps c ∷ drop (suc c) ps) = subst (SortedPeriods 1) (split-at ps c 0 (r .inside)) (periods ps c r) in
       rw (e, at-padded ds k) (downs-positive (at ps c) (drop (suc c) ps) 1 (take c ps) (omega arith) all k (omega (arith, length-take-le c ps (omega (arith, r .inside)))))
 
   pub dct-divisor : at list 0 ≡ dct ps c .D

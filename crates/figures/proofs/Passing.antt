@@ -18,12 +18,12 @@ use Rattle.fit.specs.Fits.{stretched, Multiples, lastFactor, load, overloaded}
 use Rattle.fit.proofs.Lists.{each-append, each-both, each-select, selected-pass}
 use Rattle.figures.specs.declared.Outcome.{Outcome}
 use Rattle.figures.specs.Constructions.{Acceleration, leastPower, largestPower, sr, dct}
-use Rattle.figures.specs.Meaning.{Rising, Factors, Sound}
-use Rattle.figures.specs.Passing.{passes, first, eachPivot, inRange, trials, rising, taskSet, firstPassing}
+use Rattle.figures.specs.Meaning.{SortedPeriods, Factors, Sound}
+use Rattle.figures.specs.Passing.{passes, first, eachPivot, inRange, trials, sortedPeriods, taskSet, firstPassing}
 use Rattle.figures.specs.Answers.{written, outcome}
 use Rattle.figures.proofs.Lists.{at-map, by-place, sum-by-place, last-by-place}
 use Rattle.figures.proofs.Powers.{least-unique, least-power}
-use Rattle.figures.proofs.Sound.{rising-test, factors-length, factors-at, sound-wider, range-divisor, range-factors, two-in-range}
+use Rattle.figures.proofs.Sound.{sorted-test, factors-length, factors-at, sound-wider, range-divisor, range-factors, two-in-range}
 use Rattle.figures.proofs.SrLaws.{sr-sound}
 use Rattle.figures.proofs.DctLaws.{dct-sound}
 
@@ -86,7 +86,7 @@ factors-chain p M Q D d (i ∷ l) h = (h .0 .multiple, factors-chain p M Q D (M 
 abbrev pub Good : List ℕ → Acceleration → Type 0
 Good ps a = Sound 3 ps a × (inRange a ≡ true)
 
-pub trials-good : (ps : List ℕ) → Rising 1 ps → Each (Good ps) (trials ps)
+pub trials-good : (ps : List ℕ) → SortedPeriods 1 ps → Each (Good ps) (trials ps)
 unfolding trials
 trials-good ps r =
     each-append (Good ps) (eachPivot (sr 2) ps) _ (each-pivot (Good ps) (sr 2) ps (λ i k. on-two (sr 2 ps i) (sr-sound 2 (le-refl 2) ps i r k)))
@@ -98,13 +98,13 @@ trials-good ps r =
     on-two a s = (sound-wider 2 3 ps a (omega arith) s, two-in-range ps a r s)
 
 -- so the first that passes is
-pub passing-sound : (ps es : List ℕ) (a : Acceleration) → firstPassing ps es ≡ some a → Rising 1 ps × Sound 3 ps a × (inRange a ≡ true) × (passes es a ≡ true)
+pub passing-sound : (ps es : List ℕ) (a : Acceleration) → firstPassing ps es ≡ some a → SortedPeriods 1 ps × Sound 3 ps a × (inRange a ≡ true) × (passes es a ≡ true)
 unfolding taskSet firstPassing
 passing-sound ps es a h = by (taskSet ps es) refl h
   where
-    by : (t : Bool) → taskSet ps es ≡ t → cond t (first es (trials ps)) none ≡ some a → Rising 1 ps × Sound 3 ps a × (inRange a ≡ true) × (passes es a ≡ true)
+    by : (t : Bool) → taskSet ps es ≡ t → cond t (first es (trials ps)) none ≡ some a → SortedPeriods 1 ps × Sound 3 ps a × (inRange a ≡ true) × (passes es a ≡ true)
     by true q g =
-        let r : Rising 1 ps = rising-test 1 ps (both (leb (length ps) 64 && eqb (length ps) (length es)) (rising 1 ps) q .1) in
+        let r : SortedPeriods 1 ps = sorted-test 1 ps (both (leb (length ps) 64 && eqb (length ps) (length es)) (sortedPeriods 1 ps) q .1) in
         let ((sound, range), pass) = first-of (Good ps) es (trials ps) a (trials-good ps r) g in
         (r, sound, range, pass)
     by false q g = absurd (Option·none-ne-some a g)
@@ -131,17 +131,17 @@ passing-accepted p e M l a h m =
     inside j k = omega (arith, length-map l p)
 
 -- Tasks in priority order whose periods are in range are a set of tasks: of them the answer is that of the first trial that passes.
-rising-tasks : (p : ℕ → ℕ) (a : ℕ) (l : List ℕ) → EachPair (Above p) l → Each (λ i. (a ≤ p i) × (p i ≤ 60000)) l → rising a (map p l) ≡ true
-unfolding Above Each EachPair rising
-rising-tasks p a [] h r = refl
-rising-tasks p a (i ∷ l) h r =
+sorted-tasks : (p : ℕ → ℕ) (a : ℕ) (l : List ℕ) → EachPair (Above p) l → Each (λ i. (a ≤ p i) × (p i ≤ 60000)) l → sortedPeriods a (map p l) ≡ true
+unfolding Above Each EachPair sortedPeriods
+sorted-tasks p a [] h r = refl
+sorted-tasks p a (i ∷ l) h r =
     rw (le-leb a (p i) (r .0 .0), le-leb (p i) 60000 (r .0 .1))
-    (rising-tasks p (p i) l (h .1) (each-both l (λ j x y. (⊎-elim (λ z. omega arith) (λ z. omega arith) x, y .1)) (h .0) (r .1)))
+    (sorted-tasks p (p i) l (h .1) (each-both l (λ j x y. (⊎-elim (λ z. omega arith) (λ z. omega arith) x, y .1)) (h .0) (r .1)))
 
 module _ (p e : ℕ → ℕ) (l : List ℕ) (few : length l ≤ 64) (order : EachPair (Above p) l) (period : Each (λ i. (1 ≤ p i) × (p i ≤ 60000)) l) where
   pub tasks-are-set : taskSet (map p l) (map e l) ≡ true
   unfolding taskSet
-  tasks-are-set = rw (length-map l p, length-map l e, le-leb (length l) 64 few, eq-eqb (length l) (length l) refl) (rising-tasks p 1 l order period)
+  tasks-are-set = rw (length-map l p, length-map l e, le-leb (length l) 64 few, eq-eqb (length l) (length l) refl) (sorted-tasks p 1 l order period)
 
   pub passing-tried : firstPassing (map p l) (map e l) ≡ first (map e l) (trials (map p l))
   unfolding firstPassing
@@ -149,9 +149,9 @@ module _ (p e : ℕ → ℕ) (l : List ℕ) (few : length l ≤ 64) (order : Eac
 
 -- a task alone passes
 pub alone : (p e : ℕ) → 1 ≤ p → p ≤ 60000 → e ≤ p → firstPassing (p ∷ []) (e ∷ []) ≡ some (record { Q = p; D = 1; factors = 1 ∷ [] })
-unfolding numbers sum lastFactor load overloaded sr passes first eachPivot trials rising taskSet firstPassing
+unfolding numbers sum lastFactor load overloaded sr passes first eachPivot trials sortedPeriods taskSet firstPassing
 alone p e pos high fits =
-    let r : Rising 1 (p ∷ []) = rising-test 1 (p ∷ []) (rw (le-leb 1 p pos, le-leb p 60000 high)) in
+    let r : SortedPeriods 1 (p ∷ []) = sorted-test 1 (p ∷ []) (rw (le-leb 1 p pos, le-leb p 60000 high)) in
     let divisor : leastPower 2 p p ≡ 1 = least-unique 2 p p (least-power 2 (le-refl 2) p p pos) (record { exponent = 0; power = refl; reaches = omega (arith, mul-one p); least = λ k h. zero-le }) in
     let factor : largestPower 2 p (p * leastPower 2 p p) ≡ 1 = sr-sound 2 (le-refl 2) (p ∷ []) 0 r (omega arith) .one in
     let light : ltb (p * 1) (e * 1 * 1 + 0) ≡ false = le-ltb (p * 1) (e * 1 * 1 + 0) (omega (arith, mul-one p, mul-one (e * 1), mul-one e)) in

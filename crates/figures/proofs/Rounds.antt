@@ -19,8 +19,8 @@ use Rattle.figures.specs.declared.Outcome.{Outcome}
 use Rattle.figures.specs.declared.Kind.{Kind}
 use Rattle.figures.specs.declared.Kind.the-variants.{Sr2, Sr3, Dct}
 use Rattle.figures.specs.Constructions.{Acceleration, sr, dct}
-use Rattle.figures.specs.Meaning.{Rising, Sound}
-use Rattle.figures.specs.Passing.{passes, first, eachPivot, inRange, trials, rising, taskSet, firstPassing}
+use Rattle.figures.specs.Meaning.{SortedPeriods, Sound}
+use Rattle.figures.specs.Passing.{passes, first, eachPivot, inRange, trials, sortedPeriods, taskSet, firstPassing}
 use Rattle.figures.specs.Steps.{Ready, Usable, readBack, construction, feasible}
 use Rattle.figures.specs.Answers.{written, outcome}
 use Rattle.figures.proofs.Sound.{divisor-bound, factors-at, factors-bound, two-in-range}
@@ -31,29 +31,29 @@ use Rattle.figures.proofs.Passing.{each-pivot, outcome-passes, outcome-
 use Rattle.fit.proofs.Lists.{at-padded, select-all}
 
 -- the periods from place i on rise from a
-pub record RisingLoop (ps : List ℕ) (a i : ℕ) : Type 0 where
-  pub left : rising 1 ps ≡ rising a (drop i ps)
+pub record SortedLoop (ps : List ℕ) (a i : ℕ) : Type 0 where
+  pub left : sortedPeriods 1 ps ≡ sortedPeriods a (drop i ps)
 
-pub rising-start : (ps : List ℕ) → RisingLoop ps 1 0
-rising-start ps = record { left = refl }
+pub sorted-start : (ps : List ℕ) → SortedLoop ps 1 0
+sorted-start ps = record { left = refl }
 
-module _ (ps : List ℕ) (a i : ℕ) (s : RisingLoop ps a i) where
+module _ (ps : List ℕ) (a i : ℕ) (s : SortedLoop ps a i) where
   module _ (h : i < length ps) where
-    pub rising-low : at ps i < a → false ≡ rising 1 ps
-    unfolding rising
-    rising-low q = sym (s .left ∙ rw (drop-cons ps i 0 h, lt-leb a (at ps i) q))
+    pub sorted-low : at ps i < a → false ≡ sortedPeriods 1 ps
+    unfolding sortedPeriods
+    sorted-low q = sym (s .left ∙ rw (drop-cons ps i 0 h, lt-leb a (at ps i) q))
 
-    pub rising-high : 60000 < at ps i → false ≡ rising 1 ps
-    unfolding rising
-    rising-high q = sym (s .left ∙ rw (drop-cons ps i 0 h, lt-leb (at ps i) 60000 q, and-false (leb a (at ps i))))
+    pub sorted-high : 60000 < at ps i → false ≡ sortedPeriods 1 ps
+    unfolding sortedPeriods
+    sorted-high q = sym (s .left ∙ rw (drop-cons ps i 0 h, lt-leb (at ps i) 60000 q, and-false (leb a (at ps i))))
 
-    pub rising-turn : a ≤ at ps i → at ps i ≤ 60000 → RisingLoop ps (at ps i) (i + 1)
-    unfolding rising
-    rising-turn q r = record { left = s .left ∙ rw (add-one i, drop-cons ps i 0 h, le-leb a (at ps i) q, le-leb (at ps i) 60000 r) }
+    pub sorted-turn : a ≤ at ps i → at ps i ≤ 60000 → SortedLoop ps (at ps i) (i + 1)
+    unfolding sortedPeriods
+    sorted-turn q r = record { left = s .left ∙ rw (add-one i, drop-cons ps i 0 h, le-leb a (at ps i) q, le-leb (at ps i) 60000 r) }
 
-  pub rising-end : length ps ≤ i → true ≡ rising 1 ps
-  unfolding rising
-  rising-end h = sym (s .left ∙ rw (drop-of-length-le ps {i = i} h))
+  pub sorted-end : length ps ≤ i → true ≡ sortedPeriods 1 ps
+  unfolding sortedPeriods
+  sorted-end h = sym (s .left ∙ rw (drop-of-length-le ps {i = i} h))
 
 module _ (ps es : List ℕ) where
   pub set-long : 64 < length ps → false ≡ taskSet ps es
@@ -64,7 +64,7 @@ module _ (ps es : List ℕ) where
   unfolding taskSet
   set-uneven h = rw (ne-eqb (length ps) (length es) h, and-false (leb (length ps) 64))
 
-  pub set-even : (r : Bool) → length ps ≤ 64 → length ps ≡ length es → r ≡ rising 1 ps → r ≡ taskSet ps es
+  pub set-even : (r : Bool) → length ps ≤ 64 → length ps ≡ length es → r ≡ sortedPeriods 1 ps → r ≡ taskSet ps es
   unfolding taskSet
   set-even r h e q = rw (le-leb (length ps) 64 h, eq-eqb (length ps) (length es) e) q
 
@@ -105,15 +105,15 @@ module _ (ps es : List ℕ) (set : taskSet ps es ≡ true) where
       let (x, y) = both (leb (length ps) 64 && eqb (length ps) (length es)) _ set in
       record { size = leb-true (length ps) 64 (both (leb (length ps) 64) _ x .0); order = y; inside = h }
 
-  pub set-rising : (i : ℕ) → i < length ps → Rising 1 ps
-  set-rising i h = periods ps i (round-ready i h)
+  pub set-sorted : (i : ℕ) → i < length ps → SortedPeriods 1 ps
+  set-sorted i h = periods ps i (round-ready i h)
 
   -- on base 2 and by DCT no pivot is skipped
   all-two : Each (λ a. inRange a ≡ true) (eachPivot (sr 2) ps)
-  all-two = each-pivot (λ a. inRange a ≡ true) (sr 2) ps (λ i h. two-in-range ps (sr 2 ps i) (set-rising i h) (sr-sound 2 (omega arith) ps i (set-rising i h) h))
+  all-two = each-pivot (λ a. inRange a ≡ true) (sr 2) ps (λ i h. two-in-range ps (sr 2 ps i) (set-sorted i h) (sr-sound 2 (omega arith) ps i (set-sorted i h) h))
 
   all-dct : Each (λ a. inRange a ≡ true) (eachPivot dct ps)
-  all-dct = each-pivot (λ a. inRange a ≡ true) dct ps (λ i h. two-in-range ps (dct ps i) (set-rising i h) (dct-sound ps i (set-rising i h) h))
+  all-dct = each-pivot (λ a. inRange a ≡ true) dct ps (λ i h. two-in-range ps (dct ps i) (set-sorted i h) (dct-sound ps i (set-sorted i h) h))
 
 -- no construction with a pivot before place i is feasible
 pub record RoundLoop (k : Kind) (ps es : List ℕ) (i : ℕ) : Type 0 where

@@ -13,14 +13,14 @@ use lib.ListN.{length}
 use Rattle.fit.specs.Lists.{numbers, sum, select, Each, at}
 use Rattle.fit.specs.Fits.{lastFactor, load, overloaded}
 use Rattle.figures.specs.Constructions.{Acceleration, Power, sr, dct}
-use Rattle.figures.specs.Meaning.{Rising, Sound}
+use Rattle.figures.specs.Meaning.{SortedPeriods, Sound}
 use Rattle.figures.specs.Passing.{passes, first, eachPivot, inRange, trials, taskSet}
 use Rattle.figures.proofs.Powers.{power-mono}
-use Rattle.figures.proofs.Sound.{rising-at, rising-pair, factors-length, factors-at, divisor-bound, factors-bound, in-range}
+use Rattle.figures.proofs.Sound.{sorted-at, sorted-pair, factors-length, factors-at, divisor-bound, factors-bound, in-range}
 use Rattle.figures.proofs.SrLaws.{sr-sound, sr-first, sr-first-factor, sr-multiplier}
 use Rattle.figures.proofs.LoadLoop.{last-place}
 use Rattle.figures.proofs.Passing.{each-pivot}
-use Rattle.figures.proofs.Rounds.{even, set-rising}
+use Rattle.figures.proofs.Rounds.{even, set-sorted}
 
 -- the only power of three from 120,000 to 180,000
 power-of-three : (m : ℕ) → Power 3 m → 120000 < m → m < 180000 → m ≡ 177147
@@ -32,12 +32,12 @@ power-of-three m (k, e) low high = by (decLe k 10) (decLe 12 k)
     by (no h) (yes x) = absurd (let large : 531441 ≤ 3 ^ k = power-mono 3 (omega arith) x in omega arith)
     by (no h) (no x) = let eleven : k ≡ 11 = omega arith in e ∙ ap (λ (t : ℕ). 3 ^ t) eleven
 
-module _ (ps : List ℕ) (i : ℕ) (r : Rising 1 ps) (h : i < length ps) where
+module _ (ps : List ℕ) (i : ℕ) (r : SortedPeriods 1 ps) (h : i < length ps) where
   sound : Sound 3 ps (sr 3 ps i)
   sound = sr-sound 3 (omega arith) ps i r h
 
   last-longest : (k : ℕ) → k < length ps → at ps k ≤ at ps (length ps - 1)
-  last-longest k g = rising-pair 1 ps r k (length ps - 1) (omega arith) (omega arith)
+  last-longest k g = sorted-pair 1 ps r k (length ps - 1) (omega arith) (omega arith)
 
   -- such a figure for period p sets the first period far below p
   apart : (m p : ℕ) → Power 3 m → m < 180000 → at ps 0 * m < 3 * p → 120000 < m → 59049 * at ps 0 < p
@@ -66,17 +66,17 @@ module _ (ps : List ℕ) (i : ℕ) (r : Rising 1 ps) (h : i < length ps) where
           factor k g t = near _ (at ps k) (last-longest k g) (sr-multiplier 3 (omega arith) ps i r h k g .factor) (factors-bound 3 ps _ r sound k g) (sr-first-factor 3 (omega arith) ps i r h k g) t
 
   pub skipped-first : inRange (sr 3 ps i) ≡ false → at ps 0 ≡ 1
-  skipped-first out = omega (arith, skipped-apart out, rising-at 1 ps r 0 (omega arith), rising-at 1 ps r (length ps - 1) (omega arith))
+  skipped-first out = omega (arith, skipped-apart out, sorted-at 1 ps r 0 (omega arith), sorted-at 1 ps r (length ps - 1) (omega arith))
 
 -- where the divisor or a factor is above 120,000, the pivot is below the divisor: the first accelerated period is below 1
-pivot-below : (b : ℕ) (ps : List ℕ) (a : Acceleration) → Rising 1 ps → Sound b ps a → inRange a ≡ false → a .Q < a .D
+pivot-below : (b : ℕ) (ps : List ℕ) (a : Acceleration) → SortedPeriods 1 ps → Sound b ps a → inRange a ≡ false → a .Q < a .D
 pivot-below b ps a r s out = by (decLe (a .D) (a .Q))
   where
     factor : a .D ≤ a .Q → (k : ℕ) → k < length (a .factors) → at (a .factors) k ≤ 120000
     factor x k g =
         let inside : k < length ps = rw (factors-length _ _ 1 ps _ (s .factors)) at g in
         let fit : a .Q * at (a .factors) k ≤ at ps k * a .D = factors-at _ _ 1 ps _ (s .factors) k inside .0 in
-        let most : at ps k * a .D ≤ 60000 * a .Q = mul-le-mul (rising-at 1 ps r k inside .1) x in
+        let most : at ps k * a .D ≤ 60000 * a .Q = mul-le-mul (sorted-at 1 ps r k inside .1) x in
         let cut : at (a .factors) k ≤ 60000 = le-of-mul-le-mul-left {k = a .Q} (rw (mul-comm (a .Q) 60000) (le-trans fit most)) (s .pivot .0) in
         omega arith
 
@@ -85,7 +85,7 @@ pivot-below b ps a r s out = by (decLe (a .D) (a .Q))
     by (no x) = omega arith
 
 -- so with budgets of at least 1 what is out of range does not pass
-pub skipped-fails : (b : ℕ) (ps es : List ℕ) (a : Acceleration) → Rising 1 ps → Sound b ps a → 0 < length ps → length ps ≡ length es → Each (λ e. 1 ≤ e) es → inRange a ≡ false → passes es a ≡ false
+pub skipped-fails : (b : ℕ) (ps es : List ℕ) (a : Acceleration) → SortedPeriods 1 ps → Sound b ps a → 0 < length ps → length ps ≡ length es → Each (λ e. 1 ≤ e) es → inRange a ≡ false → passes es a ≡ false
 unfolding passes overloaded load sum numbers Each
 skipped-fails b ps [] a r s any n h out = absurd (omega (arith, n))
 skipped-fails b ps (e ∷ es) a r s any n h out =
@@ -121,7 +121,7 @@ unfolding trials
 skip-unseen ps es set h =
     first-rest es (eachPivot (sr 2) ps) _ _
     (first-all es (eachPivot (sr 3) ps) (eachPivot dct ps)
-    (each-pivot (λ a. inRange a ≡ false → passes es a ≡ false) (sr 3) ps (λ i k out. fails i k (set-rising ps es set i k) out)))
+    (each-pivot (λ a. inRange a ≡ false → passes es a ≡ false) (sr 3) ps (λ i k out. fails i k (set-sorted ps es set i k) out)))
   where
-    fails : (i : ℕ) → i < length ps → Rising 1 ps → inRange (sr 3 ps i) ≡ false → passes es (sr 3 ps i) ≡ false
+    fails : (i : ℕ) → i < length ps → SortedPeriods 1 ps → inRange (sr 3 ps i) ≡ false → passes es (sr 3 ps i) ≡ false
     fails i k r out = skipped-fails 3 ps es (sr 3 ps i) r (sr-sound 3 (omega arith) ps i r k) (omega arith) (even ps es set) h out

@@ -14,31 +14,31 @@ use Rattle.sheet.proofs.Ranges.{both}
 use Rattle.fit.specs.Lists.{at}
 use Rattle.fit.specs.Fits.{Multiple}
 use Rattle.figures.specs.Constructions.{Acceleration}
-use Rattle.figures.specs.Meaning.{Rising, Factors, Sound}
-use Rattle.figures.specs.Passing.{atMost, inRange, rising}
+use Rattle.figures.specs.Meaning.{SortedPeriods, Factors, Sound}
+use Rattle.figures.specs.Passing.{atMost, inRange, sortedPeriods}
 
-pub rising-test : (a : ℕ) (ps : List ℕ) → rising a ps ≡ true → Rising a ps
-unfolding rising Rising
-rising-test a [] h = tt
-rising-test a (p ∷ ps) h =
-    let (x, y) = both (leb a p && leb p 60000) (rising p ps) h in
+pub sorted-test : (a : ℕ) (ps : List ℕ) → sortedPeriods a ps ≡ true → SortedPeriods a ps
+unfolding sortedPeriods SortedPeriods
+sorted-test a [] h = tt
+sorted-test a (p ∷ ps) h =
+    let (x, y) = both (leb a p && leb p 60000) (sortedPeriods p ps) h in
     let (u, v) = both (leb a p) (leb p 60000) x in
-    (leb-true a p u, leb-true p 60000 v, rising-test p ps y)
+    (leb-true a p u, leb-true p 60000 v, sorted-test p ps y)
 
 -- no period is below one before it
-pub rising-at : (a : ℕ) (ps : List ℕ) → Rising a ps → (i : ℕ) → i < length ps → (a ≤ at ps i) × (at ps i ≤ 60000)
-unfolding Rising
-rising-at a [] h i q = absurd (omega arith)
-rising-at a (p ∷ ps) h zero q = (h .0, h .1)
-rising-at a (p ∷ ps) h (suc i) q = let r = rising-at p ps (h .2) i (omega arith) in (le-trans (h .0) (r .0), r .1)
+pub sorted-at : (a : ℕ) (ps : List ℕ) → SortedPeriods a ps → (i : ℕ) → i < length ps → (a ≤ at ps i) × (at ps i ≤ 60000)
+unfolding SortedPeriods
+sorted-at a [] h i q = absurd (omega arith)
+sorted-at a (p ∷ ps) h zero q = (h .0, h .1)
+sorted-at a (p ∷ ps) h (suc i) q = let r = sorted-at p ps (h .2) i (omega arith) in (le-trans (h .0) (r .0), r .1)
 
-pub rising-pair : (a : ℕ) (ps : List ℕ) → Rising a ps → (i j : ℕ) → i ≤ j → j < length ps → at ps i ≤ at ps j
-unfolding Rising
-rising-pair a [] h i j q r = absurd (omega arith)
-rising-pair a (p ∷ ps) h zero zero q r = le-refl p
-rising-pair a (p ∷ ps) h zero (suc j) q r = rising-at p ps (h .2) j (omega arith) .0
-rising-pair a (p ∷ ps) h (suc i) zero q r = absurd (omega arith)
-rising-pair a (p ∷ ps) h (suc i) (suc j) q r = rising-pair p ps (h .2) i j (omega arith) (omega arith)
+pub sorted-pair : (a : ℕ) (ps : List ℕ) → SortedPeriods a ps → (i j : ℕ) → i ≤ j → j < length ps → at ps i ≤ at ps j
+unfolding SortedPeriods
+sorted-pair a [] h i j q r = absurd (omega arith)
+sorted-pair a (p ∷ ps) h zero zero q r = le-refl p
+sorted-pair a (p ∷ ps) h zero (suc j) q r = sorted-at p ps (h .2) j (omega arith) .0
+sorted-pair a (p ∷ ps) h (suc i) zero q r = absurd (omega arith)
+sorted-pair a (p ∷ ps) h (suc i) (suc j) q r = sorted-pair p ps (h .2) i j (omega arith) (omega arith)
 
 pub factors-length : (Q D d : ℕ) (ps ms : List ℕ) → Factors Q D d ps ms → length ms ≡ length ps
 unfolding Factors
@@ -83,9 +83,9 @@ factor-bound b Q D p m pos d h =
 pub divisor-bound : (b : ℕ) (ps : List ℕ) (a : Acceleration) → Sound b ps a → a .D < b * 60000
 divisor-bound b ps a s = lt-of-lt-of-le (s .divisor .1) (mul-le-mul-left b (s .pivot .1))
 
-pub factors-bound : (b : ℕ) (ps : List ℕ) (a : Acceleration) → Rising 1 ps → Sound b ps a → (i : ℕ) → i < length ps → at (a .factors) i < b * 60000
+pub factors-bound : (b : ℕ) (ps : List ℕ) (a : Acceleration) → SortedPeriods 1 ps → Sound b ps a → (i : ℕ) → i < length ps → at (a .factors) i < b * 60000
 factors-bound b ps a r s i q =
-    let (low, high) = rising-at 1 ps r i q in
+    let (low, high) = sorted-at 1 ps r i q in
     let own : at (a .factors) i < b * at ps i = factor-bound b (a .Q) (a .D) (at ps i) (at (a .factors) i) low (s .divisor .1) (factors-at (a .Q) (a .D) 1 ps (a .factors) (s .factors) i q .0) in
     lt-of-lt-of-le own (mul-le-mul-left b high)
 
@@ -120,6 +120,6 @@ module _ (a : Acceleration) where
   range-factors h i q = at-most-at 120000 (a .D ∷ a .factors) h (suc i) (omega arith)
 
 -- what is sound on base 2 is in range
-pub two-in-range : (ps : List ℕ) (a : Acceleration) → Rising 1 ps → Sound 2 ps a → inRange a ≡ true
+pub two-in-range : (ps : List ℕ) (a : Acceleration) → SortedPeriods 1 ps → Sound 2 ps a → inRange a ≡ true
 two-in-range ps a r s =
     in-range a (le-of-lt (divisor-bound 2 ps a s)) (λ i h. le-of-lt (factors-bound 2 ps a r s i (rw (factors-length (a .Q) (a .D) 1 ps (a .factors) (s .factors)) at h)))

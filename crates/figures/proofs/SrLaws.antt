@@ -12,10 +12,10 @@ use lib.Pow.{pow-add}
 use Rattle.fit.specs.Lists.{at}
 use Rattle.fit.specs.Fits.{Multiple}
 use Rattle.figures.specs.Constructions.{Power, leastPower, largestPower, sr}
-use Rattle.figures.specs.Meaning.{Rising, Multiplier, Factors, Sound}
+use Rattle.figures.specs.Meaning.{SortedPeriods, Multiplier, Factors, Sound}
 use Rattle.figures.proofs.Powers.{Least, Largest, least-power, largest-power, power-positive, power-mono}
 use Rattle.figures.proofs.Lists.{at-map}
-use Rattle.figures.proofs.Sound.{rising-at, rising-pair, factors-at}
+use Rattle.figures.proofs.Sound.{sorted-at, sorted-pair, factors-at}
 
 module _ (b : ℕ) (two : 2 ≤ b) where
   -- a larger power is a multiple of a smaller one
@@ -24,8 +24,8 @@ module _ (b : ℕ) (two : 2 ≤ b) where
   power-multiple j k h = (b ^ (k - j), ap (λ (x : ℕ). b ^ x) (sym (add-sub-of-le h)) ∙ pow-add b j (k - j))
 
   -- the factors after a power b ^ j that fits every period from a on
-  sr-factors : (q D a j : ℕ) (ps : List ℕ) → 0 < q → Rising a ps → q * b ^ j ≤ a * D → Factors q D (b ^ j) ps (map (λ p. largestPower b q (p * D)) ps)
-  unfolding Rising Factors
+  sr-factors : (q D a j : ℕ) (ps : List ℕ) → 0 < q → SortedPeriods a ps → q * b ^ j ≤ a * D → Factors q D (b ^ j) ps (map (λ p. largestPower b q (p * D)) ps)
+  unfolding SortedPeriods Factors
   sr-factors q D a j [] pos r h = tt
   sr-factors q D a j (p ∷ ps) pos r h =
       let more : q * b ^ j ≤ p * D = le-trans h (mul-le-mul-right D (r .0)) in
@@ -78,10 +78,10 @@ module _ (b : ℕ) (two : 2 ≤ b) where
           let low : q * 1 ≤ q * b ^ i = mul-le-mul-left q (power-positive b two i) in
           absurd (omega (arith, least-before q p m j d g, mul-one q))
 
-  pub sr-sound : (ps : List ℕ) (i : ℕ) → Rising 1 ps → i < length ps → Sound b ps (sr b ps i)
-  unfolding Rising sr
+  pub sr-sound : (ps : List ℕ) (i : ℕ) → SortedPeriods 1 ps → i < length ps → Sound b ps (sr b ps i)
+  unfolding SortedPeriods sr
   sr-sound (p ∷ ps) i r h =
-      let (low, high) = rising-at p (p ∷ ps) (le-refl p, r .1, r .2) i h in
+      let (low, high) = sorted-at p (p ∷ ps) (le-refl p, r .1, r .2) i h in
       let q : ℕ = at (p ∷ ps) i in
       let pos : 0 < q = omega (arith, r .0) in
       let d : Least b q p (leastPower b q p) = least-power b two q p (r .0) in
@@ -98,11 +98,11 @@ module _ (b : ℕ) (two : 2 ≤ b) where
   sr-sound [] i r h = absurd (omega arith)
 
   -- the first period times the divisor is below b × Q, and times a factor below b × the factor's own period
-  pub sr-first : (ps : List ℕ) (i : ℕ) → Rising 1 ps → i < length ps → at ps 0 * sr b ps i .D < b * sr b ps i .Q
+  pub sr-first : (ps : List ℕ) (i : ℕ) → SortedPeriods 1 ps → i < length ps → at ps 0 * sr b ps i .D < b * sr b ps i .Q
   unfolding sr
-  sr-first ps i r h = divisor-below (at ps i) (at ps 0) _ (rising-at 1 ps r i h .0) (rising-pair 1 ps r 0 i zero-le h) (least-power b two (at ps i) (at ps 0) (rising-at 1 ps r 0 (omega arith) .0))
+  sr-first ps i r h = divisor-below (at ps i) (at ps 0) _ (sorted-at 1 ps r i h .0) (sorted-pair 1 ps r 0 i zero-le h) (least-power b two (at ps i) (at ps 0) (sorted-at 1 ps r 0 (omega arith) .0))
 
-  pub sr-first-factor : (ps : List ℕ) (i : ℕ) → Rising 1 ps → i < length ps → (k : ℕ) → k < length ps → at ps 0 * at (sr b ps i .factors) k < b * at ps k
+  pub sr-first-factor : (ps : List ℕ) (i : ℕ) → SortedPeriods 1 ps → i < length ps → (k : ℕ) → k < length ps → at ps 0 * at (sr b ps i .factors) k < b * at ps k
   sr-first-factor ps i r h k g =
       let Q : ℕ = sr b ps i .Q in
       let D : ℕ = sr b ps i .D in
@@ -111,7 +111,7 @@ module _ (b : ℕ) (two : 2 ≤ b) where
       let x : ℕ = at ps 0 in
       let s : Sound b ps (sr b ps i) = sr-sound ps i r h in
       let fit : x * (Q * M) ≤ x * (p * D) = mul-le-mul-left x (factors-at Q D 1 ps _ (s .factors) k g .0) in
-      let less : p * (x * D) < p * (b * Q) = mul-lt-mul-of-pos-left (sr-first ps i r h) (rising-at 1 ps r k g .0) in
+      let less : p * (x * D) < p * (b * Q) = mul-lt-mul-of-pos-left (sr-first ps i r h) (sorted-at 1 ps r k g .0) in
       lt-of-mul-lt-mul-left Q (omega (arith, fit, less, mul-left-comm x Q M, mul-left-comm x p D, mul-left-comm p b Q, mul-left-comm Q b p, mul-comm p Q))
 
   multiplier : (q p x D M : ℕ) → Least b q x D → Largest b q (p * D) M → Multiplier b q p M D
@@ -136,19 +136,19 @@ module _ (b : ℕ) (two : 2 ≤ b) where
           absurd (omega (arith, m .largest (suc e) (rw (d .power) (le-of-mul-le-mul-right fit (power-positive b two k)))))
 
   -- the multiplier of every task is the largest power with Q × it ≤ p
-  pub sr-multiplier : (ps : List ℕ) (i : ℕ) → Rising 1 ps → i < length ps → (k : ℕ) → k < length ps → Multiplier b (sr b ps i .Q) (at ps k) (at (sr b ps i .factors) k) (sr b ps i .D)
+  pub sr-multiplier : (ps : List ℕ) (i : ℕ) → SortedPeriods 1 ps → i < length ps → (k : ℕ) → k < length ps → Multiplier b (sr b ps i .Q) (at ps k) (at (sr b ps i .factors) k) (sr b ps i .D)
   unfolding sr
   sr-multiplier ps i r h k g =
       let q : ℕ = at ps i in
-      let pos : 0 < q = rising-at 1 ps r i h .0 in
-      let d : Least b q (at ps 0) (leastPower b q (at ps 0)) = least-power b two q (at ps 0) (rising-at 1 ps r 0 (omega arith) .0) in
+      let pos : 0 < q = sorted-at 1 ps r i h .0 in
+      let d : Least b q (at ps 0) (leastPower b q (at ps 0)) = least-power b two q (at ps 0) (sorted-at 1 ps r 0 (omega arith) .0) in
       let D : ℕ = leastPower b q (at ps 0) in
-      let reach : at ps 0 * D ≤ at ps k * D = mul-le-mul-right D (rising-pair 1 ps r 0 k zero-le g) in
+      let reach : at ps 0 * D ≤ at ps k * D = mul-le-mul-right D (sorted-pair 1 ps r 0 k zero-le g) in
       rw (at-map (λ p. largestPower b q (p * D)) ps k g)
       (multiplier q (at ps k) (at ps 0) D (largestPower b q (at ps k * D)) d (largest-power b two q (at ps k * D) pos (le-trans (d .reaches) reach)))
 
   -- the pivot's own factor is not below the divisor
-  pub sr-divisor : (ps : List ℕ) (i : ℕ) → Rising 1 ps → i < length ps → sr b ps i .D ≤ at (sr b ps i .factors) i
+  pub sr-divisor : (ps : List ℕ) (i : ℕ) → SortedPeriods 1 ps → i < length ps → sr b ps i .D ≤ at (sr b ps i .factors) i
   unfolding sr
   sr-divisor ps i r h =
       let D : ℕ = sr b ps i .D in

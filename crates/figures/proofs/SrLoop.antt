@@ -10,11 +10,11 @@ use mir.Syntax.{w32, w64}
 use mir.Val.{Fits}
 use Rattle.fit.specs.Lists.{at}
 use Rattle.figures.specs.Constructions.{Power, leastPower, largestPower, sr}
-use Rattle.figures.specs.Meaning.{Rising, Multiplier, Sound}
+use Rattle.figures.specs.Meaning.{SortedPeriods, Multiplier, Sound}
 use Rattle.figures.specs.Steps.{Ready}
 use Rattle.figures.specs.Answers.{written}
 use Rattle.figures.proofs.Lists.{at-map}
-use Rattle.figures.proofs.Sound.{rising-pair, divisor-bound, factors-bound}
+use Rattle.figures.proofs.Sound.{sorted-pair, divisor-bound, factors-bound}
 use Rattle.figures.proofs.Ranges.{periods, period-high}
 use Rattle.figures.proofs.SrLaws.{sr-sound, sr-multiplier}
 use Rattle.fit.proofs.Filling.{Filled, filled-turn, filled-end}
@@ -48,7 +48,7 @@ module _ (b : ℕ) (ps : List ℕ) (c : ℕ) (two : 2 ≤ b) (three : b ≤ 3) (
         pivot = e;
         divisor = same;
         power = (0, sym (pow-zero b));
-        fits = λ k low high. rw (same, e) (le-trans (first-fits k high) (mul-le-mul-right (sr b ps c .D) (rising-pair 1 ps (periods ps c r) 0 k zero-le high)));
+        fits = λ k low high. rw (same, e) (le-trans (first-fits k high) (mul-le-mul-right (sr b ps c .D) (sorted-pair 1 ps (periods ps c r) 0 k zero-le high)));
       }
     where
       first-fits : (k : ℕ) → k < length ps → sr b ps c .Q * 1 ≤ at ps 0 * sr b ps c .D
@@ -106,7 +106,7 @@ module _ (b : ℕ) (ps : List ℕ) (c q d m i : ℕ) (s : SrLoop b ps c q d m i)
 
       pub sr-turn : SrLoop b ps c q d v (i + 1)
       sr-turn =
-          let up : Rising 1 ps = periods ps c (s .ready) in
+          let up : SortedPeriods 1 ps = periods ps c (s .ready) in
           let n : Multiplier b (sr b ps c .Q) (at ps i) (at (sr b ps c .factors) i) (sr b ps c .D) = sr-multiplier b (s .two) ps c up (s .ready .inside) i h in
           record {
             two = s .two;
@@ -115,7 +115,7 @@ module _ (b : ℕ) (ps : List ℕ) (c q d m i : ℕ) (s : SrLoop b ps c q d m i)
             pivot = s .pivot;
             divisor = s .divisor;
             power = rw factor-is (n .factor);
-            fits = λ k low high. rw (s .pivot, s .divisor, factor-is) (le-trans (n .fits) (mul-le-mul-right (sr b ps c .D) (rising-pair 1 ps up i k (omega arith) high)));
+            fits = λ k low high. rw (s .pivot, s .divisor, factor-is) (le-trans (n .fits) (mul-le-mul-right (sr b ps c .D) (sorted-pair 1 ps up i k (omega arith) high)));
           }
 
       -- stored: the first i factors are in the array

@@ -9,9 +9,9 @@ use Rattle.fit.specs.Fits.{Multiple}
 use Rattle.figures.specs.Constructions.{Acceleration, Power}
 
 -- periods in priority order: none below the one before it, which is a before the first, and none above 60,000
-unfoldable pub Rising : ℕ → List ℕ → Type 0
-Rising a [] = Unit {0}
-Rising a (p ∷ ps) = (a ≤ p) × (p ≤ 60000) × Rising p ps
+unfoldable pub SortedPeriods : ℕ → List ℕ → Type 0
+SortedPeriods a [] = Unit {0}
+SortedPeriods a (p ∷ ps) = (a ≤ p) × (p ≤ 60000) × SortedPeriods p ps
 
 -- Sr, at a task with period p: M / D is a power of b, its exponent negative or not, with Q × M / D ≤ p, and the largest: every power
 -- b ^ j / b ^ k with Q × b ^ j / b ^ k ≤ p is at most M / D.

@@ -37,13 +37,13 @@ unfoldable pub trials : List ℕ → List Acceleration
 trials ps = eachPivot (sr 2) ps ++ (select inRange (eachPivot (sr 3) ps) ++ eachPivot dct ps)
 
 -- periods in priority order: none below the one before it, which is a before the first, and none above 60,000
-unfoldable pub rising : ℕ → List ℕ → Bool
-rising a [] = true
-rising a (p ∷ ps) = leb a p && leb p 60000 && rising p ps
+unfoldable pub sortedPeriods : ℕ → List ℕ → Bool
+sortedPeriods a [] = true
+sortedPeriods a (p ∷ ps) = leb a p && leb p 60000 && sortedPeriods p ps
 
 -- a set of tasks: at most 64, each with a period of 1 to 60,000 and a budget, no period below the one before it
 unfoldable pub taskSet : List ℕ → List ℕ → Bool
-taskSet ps es = leb (length ps) 64 && eqb (length ps) (length es) && rising 1 ps
+taskSet ps es = leb (length ps) 64 && eqb (length ps) (length es) && sortedPeriods 1 ps
 
 -- The figures of the first trial that passes; a set passes if there is one. Anything but a set of tasks does not pass.
 unfoldable pub firstPassing : List ℕ → List ℕ → Option Acceleration

@@ -9,12 +9,12 @@ use Rattle.figures.specs.declared.CoreFigures.{CoreFigures}
 use Rattle.figures.specs.declared.Kind.{Kind}
 use Rattle.figures.specs.declared.Kind.the-variants.{Sr2, Sr3, Dct}
 use Rattle.figures.specs.Constructions.{Acceleration, sr, dct}
-use Rattle.figures.specs.Passing.{passes, inRange, rising}
+use Rattle.figures.specs.Passing.{passes, inRange, sortedPeriods}
 
 -- at most 64 periods in priority order, and the place of one of them
 pub record Ready (ps : List ℕ) (i : ℕ) : Type 0 where
   pub size : length ps ≤ 64
-  pub order : rising 1 ps ≡ true
+  pub order : sortedPeriods 1 ps ≡ true
   pub inside : i < length ps
 
 -- the construction of each kind

@@ -9,7 +9,7 @@ ghost use lib.ListN.{length, take};
 ghost use Rattle.fit.specs.Lists.{select, at, padded};
 ghost use Rattle.fit.specs.Rounding.{ceiling};
 ghost use Rattle.figures.specs.Constructions.{Power, leastPower, largestPower, sr as srOf, down, downs, dct as dctOf};
-ghost use Rattle.figures.specs.Passing.{passes as passesOf, first, eachPivot, inRange, rising, taskSet, firstPassing};
+ghost use Rattle.figures.specs.Passing.{passes as passesOf, first, eachPivot, inRange, sortedPeriods, taskSet, firstPassing};
 ghost use Rattle.figures.specs.Steps.{Ready, Usable, readBack, construction, feasible};
 ghost use Rattle.figures.specs.Answers.{written, outcome};
 
@@ -290,8 +290,8 @@ fn round(kind: Kind, periods: &[u16], budgets: &[u16]) -> Outcome
     nothing()
 }
 
-fn is_rising(periods: &[u16]) -> bool
-    ensures { λ r. ⌜ r ≡ rising 1 (now (periods .entry)) ⌝ }
+fn is_sorted(periods: &[u16]) -> bool
+    ensures { λ r. ⌜ r ≡ sortedPeriods 1 (now (periods .entry)) ⌝ }
 {
     let mut before = 1;
     let mut i = 0;
@@ -318,7 +318,7 @@ fn is_task_set(periods: &[u16], budgets: &[u16]) -> bool
     if periods.len() != budgets.len() {
         return false;
     }
-    is_rising(periods)
+    is_sorted(periods)
 }
 
 // The figures of a core with these tasks, if a construction passes. Anything but a set of tasks (`taskSet`) does not pass.
