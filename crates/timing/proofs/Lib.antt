@@ -9,6 +9,8 @@ pub mod Strokes
 pub mod Holding
 pub mod Aligned
 pub mod Unbroken
+pub mod Choice
+pub mod Twice
 pub mod Plain
 pub mod Machine
 pub mod OnTime

@@ -93,6 +93,20 @@ finish-entry j (entry (finish i) a) e = go (eqb i j) refl a e
     go true x (refused n k) y = absurd (false≢true y)
     go false x a y = absurd (false≢true y)
 
+-- and one that counts as a release of j an accepted release of j
+pub release-entry : (j : ℕ) (x : Entry) → isRelease j x ≡ true → x ≡ entry (release j) accepted
+unfolding isRelease toRelease isAccepted
+release-entry j (entry (finish i) a) e = absurd (false≢true e)
+release-entry j (entry tick a) e = absurd (false≢true e)
+release-entry j (entry (release i) a) e = go (eqb i j) refl a e
+  where
+    go : (b : Bool) → eqb i j ≡ b → (a : Answer) → (b && isAccepted a) ≡ true → entry (release i) a ≡ entry (release j) accepted
+    go true x accepted y = ap (λ k. entry (release k) accepted) (eqb-true i j x)
+    go true x (served k) y = absurd (false≢true y)
+    go true x idle y = absurd (false≢true y)
+    go true x (refused n k) y = absurd (false≢true y)
+    go false x a y = absurd (false≢true y)
+
 -- each entry of a log has the answer that its call gets at the state before it
 unfoldable pub Logged : {S : Type 0} → (Call → S → Answer) → (Call → S → S) → S → List Entry → Type 0
 Logged ask step s [] = Unit {0}
@@ -118,6 +132,12 @@ module _ {S : Type 0} (ask : Call → S → Answer) (step : Call → S → S) wh
   unfolding log run calls
   run-log [] s = refl
   run-log (c ∷ cs) s = run-log cs (step c s)
+
+  -- and a log is that of its calls
+  pub log-calls : (l : List Entry) (s : S) → Logged ask step s l → log ask step s (calls l) ≡ l
+  unfolding Logged log calls
+  log-calls [] s h = refl
+  log-calls (entry c a ∷ l) s h = rw (h .0, log-calls l (step c s) (h .1))
 
   -- the state after two logs is the state after the second from the state after the first
   pub run-append : (l m : List Entry) (s : S) → run step s (calls (l ++ m)) ≡ run step (run step s (calls l)) (calls m)
