@@ -18,7 +18,7 @@ use Rattle.timing.specs.Calls.{Call, release, answer, next, log, run}
 use Rattle.timing.specs.Form.{Sound, Distinct, Above, Form, Fresh}
 use Rattle.timing.specs.OnTime.{OnTime}
 use Rattle.timing.specs.Serving.{nth, ByHistory}
-use Rattle.timing.specs.Strokes.{StateForm, Unbroken}
+use Rattle.timing.specs.Strokes.{StateForm, Unbroken, GoesOn, FreeAgain}
 use Rattle.timing.proofs.Rate.{sumOf, rate, rate-le}
 use Rattle.timing.proofs.Demand.{Demand, room-of-load}
 use Rattle.timing.proofs.OnTime.{on-time}
@@ -26,6 +26,7 @@ use Rattle.timing.proofs.Later.{on-time-later}
 use Rattle.timing.proofs.Own.{released-listed}
 use Rattle.timing.proofs.History.{by-history}
 use Rattle.timing.proofs.Unbroken.{unbroken}
+use Rattle.timing.proofs.Choice.{Figured, goes-on, free-again}
 use Rattle.timing.proofs.Plain.{plain, plain-form}
 use Rattle.dispatcher.specs.Starts.{freshTask, freshTasks}
 use Rattle.fit.specs.Priority as priority
@@ -100,6 +101,9 @@ module _ (p e q : ℕ → ℕ) where
   -- and their stroke lengths
   pub fresh-strokes : (l : List ℕ) → Each (λ t. q (t .number) ≡ t .stroke) (freshTasks p e q l)
   fresh-strokes l = each-fresh (λ t. q (t .number) ≡ t .stroke) l (each-all _ l (λ i. refl))
+
+  pub fresh-figures : (l : List ℕ) → Each (Figured p e q) (freshTasks p e q l)
+  fresh-figures l = each-fresh (Figured p e q) l (each-all _ l (λ i. (refl, refl, refl)))
 
   abbrev Ranges : ℕ → Type 0
   Ranges i = ((1 ≤ e i) × (e i ≤ p i)) × ((1 ≤ q i) × (q i ≤ e i))
@@ -213,6 +217,13 @@ module _ (p e q M : ℕ → ℕ) (Q D : ℕ) (l : List ℕ) (h : Schedulable p e
   -- no stroke is broken
   pub schedule-unbroken : (cs : List Call) → Unbroken q (log answer next (plain (freshTasks p e q l)) cs)
   schedule-unbroken cs = unbroken q (plain (freshTasks p e q l)) (plain-form _ schedule-form) (all-fresh p e q l) (fresh-strokes p e q l) cs
+
+  -- each goes on while its job is pending, and between strokes a tick goes by priority
+  pub schedule-goes-on : (cs : List Call) → GoesOn e q (log answer next (plain (freshTasks p e q l)) cs)
+  schedule-goes-on cs = goes-on p e q (plain (freshTasks p e q l)) (plain-form _ schedule-form) (all-fresh p e q l) (fresh-figures p e q l) cs
+
+  pub schedule-free-again : (cs : List Call) → FreeAgain p e q (log answer next (plain (freshTasks p e q l)) cs)
+  schedule-free-again cs = free-again p e q (plain (freshTasks p e q l)) (plain-form _ schedule-form) (all-fresh p e q l) (fresh-figures p e q l) cs
 
   -- and each release is answered by the ticks since the last accepted one
   pub schedule-by-history : (cs : List Call) → Each (λ j. ByHistory (p j) j (log answer next (plain (freshTasks p e q l)) cs) (answer (release j) (run next (plain (freshTasks p e q l)) cs))) l

@@ -41,7 +41,7 @@ use Rattle.timing.specs.Serving.{ByHistory}
 use Rattle.state.specs.declared.Core.{Core}
 use Rattle.state.specs.declared.Step.{Step}
 use Rattle.state.specs.declared.Answer.the-variants.{Accepted}
-use Rattle.timing.specs.Strokes.{StateForm, Unbroken}
+use Rattle.timing.specs.Strokes.{StateForm, Unbroken, GoesOn, FreeAgain}
 use Rattle.timing.proofs.Plain.{plain, plain-form}
 use Rattle.state.specs.State.{tasksOf, stateIn, InForm}
 use Rattle.state.specs.Operations.{refusal, ask, step}
@@ -50,7 +50,7 @@ use Rattle.dispatcher.specs.OnTime.{Kept, Timely}
 use Rattle.dispatcher.specs.Steps.{freshBy}
 use Rattle.dispatcher.proofs.Starting.{fresh-renamed}
 use Rattle.state.proofs.Logs.{log-form, ask-run, never-foreign}
-use Rattle.dispatcher.proofs.Schedule.{schedule-form, schedule-on-time, schedule-by-period, schedule-unbroken, schedule-by-history, all-fresh, fresh-form}
+use Rattle.dispatcher.proofs.Schedule.{schedule-form, schedule-on-time, schedule-by-period, schedule-unbroken, schedule-goes-on, schedule-free-again, schedule-by-history, all-fresh, fresh-form}
 use Rattle.checker.specs.Verdict as verdict
 
 -- the state that has these tasks: its tasks, its places and its form
@@ -101,6 +101,8 @@ core-kept s n c k h cs =
       rule = subst (OnTime _ _) (sym (core-log s n c k h cs)) (schedule-on-time _ _ _ _ _ _ _ (h .schedulable) cs);
       by-period = subst (OnTime _ _) (sym (core-log s n c k h cs)) (schedule-by-period _ _ _ _ _ _ _ (h .schedulable) cs);
       unbroken = subst (Unbroken _) (sym (core-log s n c k h cs)) (schedule-unbroken _ _ _ _ _ _ _ (h .schedulable) cs);
+      goes-on = subst (GoesOn _ _) (sym (core-log s n c k h cs)) (schedule-goes-on _ _ _ _ _ _ _ (h .schedulable) cs);
+      free-again = subst (FreeAgain _ _ _) (sym (core-log s n c k h cs)) (schedule-free-again _ _ _ _ _ _ _ (h .schedulable) cs);
       never-foreign = never-foreign cs (stateOf (sheetTasks s k)) (f .places) (f .form);
       bounds = h .schedulable .bounds;
     }
