@@ -1,5 +1,5 @@
--- The bench cards A to Z and AA to AD, small inputs each with what it must give, and the listings of B, C, P, X and AB, as one table about
--- the definitions (docs/SHEET.md, sections 4 to 8 and 11 to 14). N to Q, S to U and W to AD are in no paper; all but T were worked out by
+-- The bench cards A to Z and AA to AE, small inputs each with what it must give, and the listings of B, C, P, X and AB, as one table about
+-- the definitions (docs/SHEET.md, sections 4 to 8 and 11 to 14). N to Q, S to U and W to AE are in no paper; all but T were worked out by
 -- hand.
 use Prim.Native.Nat.{ℕ, _/_, _%_}
 use Prim.Native.String.{String}
@@ -114,6 +114,11 @@ strokedTask p e q M = p ∷ 0 ∷ e ∷ 0 ∷ 0 ∷ q ∷ M ∷ 0 ∷ 0 ∷ 0 �
 
 abbrev pub stroked : (q r : ℕ) → List ℕ
 stroked q r = headerOf 3 2 1 ++ (strokedTask 2 1 q 1 ++ (strokedTask 7 3 r 3 ++ core 2 1))
+
+-- one of three tasks on one core: (3,1) with stroke length 1, (9,4) with q and (18,4) with r, pivot 3, divisor 1 and factors 1, 3 and 6,
+-- whose load is one
+abbrev pub strokedThree : (q r : ℕ) → List ℕ
+strokedThree q r = headerOf 3 3 1 ++ (strokedTask 3 1 1 1 ++ (strokedTask 9 4 q 3 ++ (strokedTask 18 4 r 6 ++ core 3 1)))
 
 -- seven bytes
 abbrev pub seven : List ℕ
@@ -345,7 +350,7 @@ abbrev pub tooMany : Core
 tooMany = record { count = 65; tasks = []; «stroke_task» = 0; «stroke_left» = 0 }
 
 -- The cards. A to F and O to Q are verdicts, G to I, N and R to T plans, J and K runs on the sheet of I, L a run on the bench, M a ring
--- order, U trials, V and W margins, X and Y sheets of version 2, Z a row of both cores of the sheet of X, AA to AD sheets of version 3 and
+-- order, U trials, V and W margins, X and Y sheets of version 2, Z a row of both cores of the sheet of X, AA to AE sheets of version 3 and
 -- their strokes; then the listings.
 pub record Cards : Type 0 where
   pub A : verdict (header 0 0) ≡ checker.accepted 0 0
@@ -426,6 +431,13 @@ pub record Cards : Type 0 where
   pub AD :
       map (ask tick) (inStroke 2 2 1 1 ∷ inStroke 0 2 0 0 ∷ inStroke 4 2 0 0 ∷ inStroke 2 0 1 1 ∷ inStroke 2 2 5 1 ∷ inStroke 2 2 1 2 ∷ inStroke 3 1 1 2 ∷ inStroke 2 2 1 0 ∷ [])
       ≡ served 1 ∷ refused 21 0 ∷ refused 21 0 ∷ refused 21 0 ∷ refused 21 0 ∷ refused 21 0 ∷ refused 21 0 ∷ refused 21 0 ∷ []
+  -- Task 0 has room for a B of 2, the longest stroke below it less 1, whichever task has it; with B as the sum of the two, 3, both would be 14.
+  -- A stroke of 4 is 14.
+  pub AE :
+      (verdict (strokedThree 3 2) ≡ checker.accepted 3 1)
+      × (verdict (strokedThree 2 3) ≡ checker.accepted 3 1)
+      × (verdict (strokedThree 4 2) ≡ checker.refused 14 64)
+      × (verdict (strokedThree 2 4) ≡ checker.refused 14 64)
   pub listingB : listingOf (listed 6 4) ≡ text linesB
   pub listingC : listingOf (listed 7 4) ≡ text linesC
   pub listingP : listingOf nearlyFull ≡ text linesP

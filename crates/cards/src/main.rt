@@ -1,13 +1,13 @@
 // Runs the cards of specs/Cards.antt, but for U, which is about the definition of the trials, Z and AD, through the code and prints a line for
 // each (three for R, one a start; for X the verdict, the mover both ways and a run; three for Y; two for AA; for AB the verdict, three runs and
-// the mover; three for AC), then the listing of the sheets of B, C, P, X and AB.
+// the mover; three for AC; four for AE), then the listing of the sheets of B, C, P, X and AB.
 ghost use Prim.Native.Nat.{_+_, _*_, _≤_};
 ghost use mathlib.Core.Path.{_≡_};
 ghost use mathlib.Core.Bool.{true};
 ghost use lib.ListN.{length};
 ghost use Rattle.io.specs.Counts.{Counts};
 ghost use Rattle.fit.specs.Fits.{within as withinOf};
-ghost use Rattle.cards.specs.Cards.{header, listed as listedSheet, seven, jobsG, jobsH, jobsI, jobsL, jobsN, jobsR, jobsS, jobsT, jobsV, jobsW, unchained as unchainedSheet, nearlyFull, overfull as overfullSheet, grouped as groupedSheet, ungrouped as ungroupedSheet, stroked as strokedSheet};
+ghost use Rattle.cards.specs.Cards.{header, listed as listedSheet, seven, jobsG, jobsH, jobsI, jobsL, jobsN, jobsR, jobsS, jobsT, jobsV, jobsW, unchained as unchainedSheet, nearlyFull, overfull as overfullSheet, grouped as groupedSheet, ungrouped as ungroupedSheet, stroked as strokedSheet, strokedThree};
 use checker::Verdict;
 use state::Answer;
 use state::Core;
@@ -169,7 +169,18 @@ fn stroked(q: u8, r: u8) -> [u8; 36]
     sheet
 }
 
-// Cards A to F, O to Q, Y, AA and AC: what the checker answers.
+// The sheet of card AE with these stroke lengths of tasks 1 and 2.
+fn stroked_three(q: u8, r: u8) -> [u8; 46]
+    ensures { λ x. ⌜ x ≡ strokedThree q r ⌝ }
+{
+    let mut sheet =
+        *b"TSH\x03\x00\x03\x01\x00\x03\x00\x01\x00\x00\x01\x01\x00\x00\x00\x09\x00\x04\x00\x00\x00\x03\x00\x00\x00\x12\x00\x04\x00\x00\x00\x06\x00\x00\x00\x03\x00\x00\x00\x01\x00\x00\x00";
+    sheet[23] = q;
+    sheet[33] = r;
+    sheet
+}
+
+// Cards A to F, O to Q, Y, AA, AC and AE: what the checker answers.
 fn check_card(name: &[u8], sheet: &[u8]) {
     print(name);
     let verdict = checker::check(sheet);
@@ -509,7 +520,7 @@ fn runs_ab(sheet: &[u8]) {
     print(b"\n");
 }
 
-fn cards_aa_to_ac() {
+fn strokes_cards() {
     check_card(b"AA", &stroked(1, 1));
     check_card(b"AA", &stroked(1, 3));
     check_card(b"AB", &stroked(1, 2));
@@ -517,6 +528,10 @@ fn cards_aa_to_ac() {
     check_card(b"AC", &stroked(1, 0));
     check_card(b"AC", &stroked(1, 4));
     check_card(b"AC", &stroked(2, 4));
+    check_card(b"AE", &stroked_three(3, 2));
+    check_card(b"AE", &stroked_three(2, 3));
+    check_card(b"AE", &stroked_three(4, 2));
+    check_card(b"AE", &stroked_three(2, 4));
 }
 
 // The listing of a sheet.
@@ -551,7 +566,7 @@ fn main() {
     check_card(b"Y", &grouped(1, 4, 2, 2));
     check_card(b"Y", &grouped(1, 4, 0, 3));
     check_card(b"Y", &grouped(4, 1, 0, 2));
-    cards_aa_to_ac();
+    strokes_cards();
     print_listing(&listed(6, 4));
     print_listing(&listed(7, 4));
     print_listing(&nearly_full());

@@ -119,6 +119,26 @@ pub over-unchained : (overFromFirst (at (5 ∷ 1 ∷ 1 ∷ [])) (λ i. 1) (at (3
 unfolding overFromFirst overAlong levelOverloaded overloadedBelow levelLoad load sum blocking
 over-unchained = (refl, refl)
 
+-- Rule 14 with any blocking term, which is given the tasks above and below a task. With `blocking` of those below it is the rule.
+pub overloadedBy : (B : List ℕ → List ℕ → ℕ) (e M : ℕ → ℕ) (Q D : ℕ) → List ℕ → List ℕ → Bool
+overloadedBy B e M Q D xs [] = false
+overloadedBy B e M Q D xs (i ∷ l) = ltb (Q * M i) (load e M D (M i) (xs ++ i ∷ []) + B xs l * D) || overloadedBy B e M Q D (xs ++ i ∷ []) l
+
+pub blocked-below : (e q M : ℕ → ℕ) (Q D : ℕ) (xs l : List ℕ) → overloadedBelow e q M Q D xs l ≡ overloadedBy (λ ys zs. blocking q zs) e M Q D xs l
+unfolding overloadedBelow levelLoad overloadedBy
+blocked-below e q M Q D xs [] = refl
+blocked-below e q M Q D xs (i ∷ l) = ap (λ b. ltb (Q * M i) (load e M D (M i) (xs ++ i ∷ []) + blocking q l * D) || b) (blocked-below e q M Q D (xs ++ i ∷ []) l)
+
+-- With the strokes of the tasks above in it, it would refuse a core that fits: a stroke of 3 above a task that leaves no room.
+pub above-differs : (levelOverloaded (at (3 ∷ 6 ∷ [])) (at (3 ∷ 1 ∷ [])) (at (1 ∷ 2 ∷ [])) 6 1 (0 ∷ 1 ∷ []) ≡ false) × (overloadedBy (λ xs ys. blocking (at (3 ∷ 1 ∷ [])) (xs ++ ys)) (at (3 ∷ 6 ∷ [])) (at (1 ∷ 2 ∷ [])) 6 1 [] (0 ∷ 1 ∷ []) ≡ true)
+unfolding levelOverloaded overloadedBelow levelLoad load sum blocking overloadedBy
+above-differs = (refl, refl)
+
+-- And so it would with the sum of the strokes below for the longest: strokes of 3 and 2 below a task that has room for 2 ticks.
+pub sum-differs : (levelOverloaded (at (1 ∷ 4 ∷ 4 ∷ [])) (at (1 ∷ 3 ∷ 2 ∷ [])) (at (1 ∷ 3 ∷ 6 ∷ [])) 3 1 (0 ∷ 1 ∷ 2 ∷ []) ≡ false) × (overloadedBy (λ xs ys. sum (λ i. at (1 ∷ 3 ∷ 2 ∷ []) i - 1) ys) (at (1 ∷ 4 ∷ 4 ∷ [])) (at (1 ∷ 3 ∷ 6 ∷ [])) 3 1 [] (0 ∷ 1 ∷ 2 ∷ []) ≡ true)
+unfolding levelOverloaded overloadedBelow levelLoad load sum blocking overloadedBy
+sum-differs = (refl, refl)
+
 -- a list is empty or has a last task, whose factor is the last one
 pub data Ended : List ℕ → Type 0 where
   empty : Ended []
