@@ -32,11 +32,12 @@ use Rattle.timing.proofs.Aligned.{Part, inside, outside, Aligned, align
 abbrev pub Figured : (p e q : ℕ → ℕ) → Task → Type 0
 Figured p e q t = (p (t .number) ≡ t .period) × (e (t .number) ≡ t .budget) × (q (t .number) ≡ t .stroke)
 
--- after a log from a fresh state in form
+-- the state after a log l from a fresh state in form
 module _ (p e q : ℕ → ℕ) (s : State) (f : StateForm s) (h : Each Fresh (s .tasks)) (v : Each (Figured p e q) (s .tasks)) (l : List Entry) (k : Logged answer next s l) where
   abbrev pub u : State
   u = run next s (calls l)
 
+  -- it is in form, its jobs were given strokes, and its tasks have their figures and what their jobs have still to get
   kept : StateForm u × Each (Aligned (u .stroke)) (u .tasks)
   kept = run-kept next (λ x. StateForm x × Each (Aligned (x .stroke)) (x .tasks)) (λ c x g. (state-form-kept c x (g .0), aligned-kept c x (g .0) (g .1))) (calls l) s (f, each-of (s .tasks) (λ t y z. absurd (omega (arith, y .left))) h)
 
@@ -114,7 +115,7 @@ module _ (p e q : ℕ → ℕ) (s : State) (f : StateForm s) (h : Each Fresh (s 
   on : (j n : ℕ) → PendingAfter (e j) j n l → 0 < n % q j → answer tick u ≡ served j
   on j n w y = ⊎-elim (λ z. absurd (omega arith)) (λ x. tick-inside u (kept .0) (x .0) ∙ ap served (x .1)) (part j n w)
 
-  -- a tick is answered with a number, or is idle and finds nothing pending
+  -- where a task is pending a tick is answered with a number
   answered : (i : ℕ) → i < length (u .tasks) → 0 < nth (u .tasks) i .left → (j : ℕ) × (answer tick u ≡ served j)
   unfolding answer answerBy
   answered i lt y = ⊎-elim (λ x. absurd (omega (arith, y, each-at _ noTask (u .tasks) i lt (tick-idle u (kept .0) x)))) (λ x. (nth (u .tasks) (x .0) .number, x .4)) (changed-found (changed-tick (turn (u .stroke)) (λ t. t) (u .tasks)))
