@@ -151,19 +151,19 @@ module _ (a : CodeAnswer) (s : Core) where
   moved-refused w k p h r = rw (r, h)
 
   module _ (o : Answer) (t : Core) (e : answerOf a ≡ o) (f : s ≡ t) where
-    pub ticked-served : (j : ℕ) → a ≡ Served j → record { refusal = 0; place = 0; task = j; core = s } ≡ tickedOf o t
+    pub ticked-served : (j : ℕ) → a ≡ Served j → record { refusal = 0; free = 0; place = 0; task = j; free1 = 0; free2 = 0; core = s } ≡ tickedOf o t
     unfolding tickedOf
     ticked-served j h = rw (← e, ← f, h)
 
-    pub ticked-idle : a ≡ Idle → record { refusal = 0; place = 0; task = 255; core = s } ≡ tickedOf o t
+    pub ticked-idle : a ≡ Idle → record { refusal = 0; free = 0; place = 0; task = 255; free1 = 0; free2 = 0; core = s } ≡ tickedOf o t
     unfolding tickedOf
     ticked-idle h = rw (← e, ← f, h)
 
-    pub ticked-refused : (w : Refusal) (k p : ℕ) → a ≡ Refused w p → k ≡ numberOf w → record { refusal = k; place = p; task = 0; core = s } ≡ tickedOf o t
+    pub ticked-refused : (w : Refusal) (k p : ℕ) → a ≡ Refused w p → k ≡ numberOf w → record { refusal = k; free = 0; place = p; task = 0; free1 = 0; free2 = 0; core = s } ≡ tickedOf o t
     unfolding tickedOf
     ticked-refused w k p h r = rw (← e, ← f, r, h)
 
-    pub ticked-accepted : a ≡ Accepted → record { refusal = 0; place = 0; task = 0; core = s } ≡ tickedOf o t
+    pub ticked-accepted : a ≡ Accepted → record { refusal = 0; free = 0; place = 0; task = 0; free1 = 0; free2 = 0; core = s } ≡ tickedOf o t
     unfolding tickedOf
     ticked-accepted h = rw (← e, ← f, h)
 

@@ -50,10 +50,10 @@ steppedOf (refused k p) s = record { refusal = k; place = p; core = s }
 
 -- what a tick answers: `task` is the number of the task that got it, or 255 where it was idle
 unfoldable pub tickedOf : Answer → Core → Ticked
-tickedOf accepted s = record { refusal = 0; place = 0; task = 0; core = s }
-tickedOf (served j) s = record { refusal = 0; place = 0; task = j; core = s }
-tickedOf idle s = record { refusal = 0; place = 0; task = 255; core = s }
-tickedOf (refused k p) s = record { refusal = k; place = p; task = 0; core = s }
+tickedOf accepted s = record { refusal = 0; free = 0; place = 0; task = 0; free1 = 0; free2 = 0; core = s }
+tickedOf (served j) s = record { refusal = 0; free = 0; place = 0; task = j; free1 = 0; free2 = 0; core = s }
+tickedOf idle s = record { refusal = 0; free = 0; place = 0; task = 255; free1 = 0; free2 = 0; core = s }
+tickedOf (refused k p) s = record { refusal = k; free = 0; place = p; task = 0; free1 = 0; free2 = 0; core = s }
 
 -- what a tick of a row answers
 unfoldable pub rowTickedOf : row.Outcome → RowTicked

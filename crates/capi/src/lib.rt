@@ -68,11 +68,15 @@ pub struct StepAnswer {
     pub core: Core,
 }
 
+// The bytes that C leaves free between the fields have names here: an answer that is whole is copied once less.
 #[repr(C)]
 pub struct Ticked {
     pub refusal: u8,
+    pub free: u8,
     pub place: u16,
     pub task: u8,
+    pub free1: u8,
+    pub free2: u16,
     pub core: Core,
 }
 
@@ -245,26 +249,38 @@ pub extern "C" fn homvaits_tick(core: Core) -> Ticked
     match answer {
         Answer::Served(task) => Ticked {
             refusal: 0,
+            free: 0,
             place: 0,
             task,
+            free1: 0,
+            free2: 0,
             core: next,
         },
         Answer::Idle => Ticked {
             refusal: 0,
+            free: 0,
             place: 0,
             task: 255,
+            free1: 0,
+            free2: 0,
             core: next,
         },
         Answer::Refused { word, place } => Ticked {
             refusal: sheet::number(word),
+            free: 0,
             place,
             task: 0,
+            free1: 0,
+            free2: 0,
             core: next,
         },
         Answer::Accepted => Ticked {
             refusal: 0,
+            free: 0,
             place: 0,
             task: 0,
+            free1: 0,
+            free2: 0,
             core: next,
         },
     }

@@ -101,11 +101,11 @@ fn aged(t: Task) -> Task
 }
 
 // The ticks left of the stroke in which a task has its tick, after it: of so many, or of a stroke that begins where there are none.
-fn ticks_after(left: u8, t: Task) -> u8
-    ensures { λ r. ⌜ r ≡ strokeTicks left t - 1 ⌝ }
+fn ticks_after(ticks: u8, t: Task) -> u8
+    ensures { λ r. ⌜ r ≡ strokeTicks ticks t - 1 ⌝ }
 {
-    if 0 < left {
-        return left - 1;
+    if 0 < ticks {
+        return ticks - 1;
     }
     if (t.stroke as u16) < t.left {
         return form::less_one(t.stroke);
