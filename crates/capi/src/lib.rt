@@ -21,14 +21,14 @@ ghost use Rattle.capi.specs.Answers.{layout, checkedOf, plannedOf, liste
 ghost use Rattle.capi.specs.Moved.{RunsAlike};
 ghost use Rattle.capi.specs.Planned.{RunsOnTime};
 use checker::Verdict;
-use state::Answer;
-use state::Core;
-use state::Step;
 use listing::Listed;
 use margin::Slack;
 use mover::Moved;
 use planner::Planned;
 use row::RowAnswer;
+use state::Answer;
+use state::Core;
+use state::Step;
 
 #[repr(C)]
 pub struct Checked {

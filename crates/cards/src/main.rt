@@ -9,9 +9,6 @@ ghost use Rattle.io.specs.Counts.{Counts};
 ghost use Rattle.fit.specs.Fits.{within as withinOf};
 ghost use Rattle.cards.specs.Cards.{header, listed as listedSheet, seven, jobsG, jobsH, jobsI, jobsL, jobsN, jobsR, jobsS, jobsT, jobsV, jobsW, unchained as unchainedSheet, nearlyFull, overfull as overfullSheet, grouped as groupedSheet, ungrouped as ungroupedSheet, stroked as strokedSheet, strokedThree};
 use checker::Verdict;
-use state::Answer;
-use state::Core;
-use state::Step;
 use fit::By;
 use libc::STDOUT_FILENO;
 use listing::Listed;
@@ -19,6 +16,9 @@ use margin::Slack;
 use mover::Moved;
 use planner::Planned;
 use sheet::Refusal;
+use state::Answer;
+use state::Core;
+use state::Step;
 
 fn print(text: &[u8]) {
     io::write_all(STDOUT_FILENO, text);

@@ -203,7 +203,6 @@ module _ {M : Type 1} (𝓤 : URA M) (H : Heap 𝓤) (A : Atoms 𝓤) (W : Given
       abbrev Again : Place n → SProp 𝓤
       Again t = Below 𝓤 H A (Nearer n) I t
 
-
       -- a turn leaves the loop, or comes to the invariant at a later place
       turn : (t : Place n) → Sq W (I t) (runs (𝓣 .C) (𝓣 .Λ) E pieces.turn-1 (turnEnds (𝓣 .C) (𝓣 .Λ) E (Again t) rest Post))
       unfolding afterTurn
