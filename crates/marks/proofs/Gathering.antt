@@ -3,12 +3,12 @@
 use Prim.Native.Nat.{ℕ, zero, suc, _+_, _-_, _*_, _/_, _%_, _^_, _≤_, _<_, min}
 use mathlib.Core.Path.{_≡_, refl, sym, ap, _∙_}
 use mathlib.Core.Bool.{Bool, true, false, cond}
-use mathlib.Core.List.{List, [], _∷_, _++_, map}
+use mathlib.Core.List.{List, [], _∷_, map}
 use native.Mathlib.Nat.{suc-add, zero-add, mul-one, pow-suc, div-add-mod'}
 use native.Mathlib.Decide.{ℕ-discrete}
 use native.Mathlib.Numerals.{add-one}
 use native.Mathlib.Omega.{arith}
-use lib.ListN.{length, take, drop, replicate, length-take, length-drop, length-map, take-append-drop}
+use lib.ListN.{length, take, drop, replicate, length-drop, length-map, take-append-drop}
 use lib.Seq.{length-take-le, take-at}
 use lib.Dec.{ltb}
 use lib.Arith.{lt-of-le-ne}
@@ -20,7 +20,7 @@ use borrow.Author.Tests.{ltb-true, ltb-false, lt-ltb, le-ltb}
 use Rattle.sheet.specs.Numbers.{word, long}
 use Rattle.fit.specs.Lists.{at, padded, placeOf, Each}
 use Rattle.fit.proofs.Finds.{Searched, place-start, place-within, group-hit, group-turn, place-map}
-use Rattle.fit.proofs.Lists.{each-of, each-append, each-take, each-halves, padded-length}
+use Rattle.fit.proofs.Lists.{each-append, each-take, each-halves, padded-length}
 use Rattle.timing.specs.declared.Task.{Task}
 use Rattle.timing.specs.Tasks.{pending}
 use Rattle.marks.specs.Words.{mark, marked, marksOf, Bytes, wordOf, wordAt, lowestMark}

@@ -8,7 +8,7 @@ use Rattle.state.specs.declared.Core.{Core}
 use Rattle.state.specs.declared.Step.{Step}
 use Rattle.state.specs.declared.Answer.{Answer}
 use Rattle.state.specs.declared.Answer.the-variants.{Accepted, Served, Idle, Refused}
-use Rattle.state.specs.Operations.{answerOf, ask, step, answerByte, Operation}
+use Rattle.state.specs.Operations.{answerOf, answerByte, Operation}
 use Rattle.row.specs.Row.{TickedBy}
 
 module _ (a : Answer) where

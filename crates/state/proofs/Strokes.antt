@@ -1,4 +1,4 @@
--- The stroke of a state, as the code ends it and takes a tick from it, and the most ticks that a stroke of a task may have left.
+-- The stroke of a state, as the code ends it and takes a tick from it.
 -- Assumes nothing.
 use Prim.Native.Nat.{ℕ, zero, suc, _-_, _≤_, _<_, min}
 use mathlib.Core.Path.{_≡_, refl}
@@ -10,14 +10,7 @@ use Rattle.timing.specs.declared.Task.{Task}
 use Rattle.timing.specs.Calls.{noStroke, strokeOf, strokeTicks}
 use Rattle.state.specs.declared.Core.{Core}
 use Rattle.state.specs.State.{strokeIn}
-use Rattle.state.specs.Steps.{mostLeft, withStroke}
-
--- the most ticks that a stroke may have left
-pub most-length : (t : Task) (m : ℕ) → m ≡ t .stroke - 1 → m < t .left → m ≡ mostLeft t
-most-length t m e h = omega arith
-
-pub most-job : (t : Task) (m : ℕ) → m ≡ t .stroke - 1 → t .left ≤ m → t .left ≡ mostLeft t
-most-job t m e h = omega arith
+use Rattle.state.specs.Steps.{withStroke}
 
 -- a number of a stroke with ticks left
 pub number-some : (j r : ℕ) → (r ≡ 0 → ⊥) → j ≡ strokeOf j r .task

@@ -2,7 +2,6 @@
 -- between the loop holds both rows, of which the first i are overwritten, and each turn lends them to `tick_at`.
 use Prim.Native.Nat.{ℕ, _^_, _≤_, _<_}
 use mathlib.Core.Path.{_≡_, refl, sym, ap, subst, _∙_}
-use mathlib.Core.Bool.{false}
 use mathlib.Core.List.{List, [], _∷_, map}
 use native.Mathlib.Omega.{arith}
 use lib.Dec.{ltb→lt, nltb→le, lit<}
@@ -44,7 +43,6 @@ use denote.Triple.Statement.{Contract, Triple}
 use denote.Triple.Table.{entered, cited}
 use denote.Triple.Walked.{says, needs, Stays, stay-slice, walkOf, Walks, ends-at, walked, goes-slice, walk-meets}
 use Rattle.fit.specs.Lists.{over}
-use Rattle.fit.proofs.Finds.{place-before}
 use Rattle.fit.proofs.Overwriting.{overwritten, over-length, over-at, over-turn, over-end, self-turn, self-end}
 use Rattle.timing.specs.Calls.{tick}
 use Rattle.state.specs.declared.Core.{Core}
