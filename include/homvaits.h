@@ -6,7 +6,7 @@
  * Every call takes any bytes and any numbers, and always returns. What the caller must see to:
  * - homvaits_layout() is HOMVAITS_LAYOUT; else no other call may be made;
  * - a pointer is valid for its length. Where the length is 0 it is not looked at, and may be anything, null too. Null with a length above
- *   0 is not refused: the program crashes where it is read or written, as with any pointer that is not valid;
+ *   0 is not refused: where a call reads or writes it, the program crashes;
  * - an output does not overlap an input, and nothing else writes either during a call.
  *
  * Every answer that is a struct has a `refusal`: 0 where nothing is refused, else one of the numbers below, with its `place`. The rules

@@ -48,6 +48,7 @@ try 1 &
 odd=$!
 try 0 &
 even=$!
+trap 'kill $odd $even 2> /dev/null; exit 1' INT TERM
 status=0
 wait $odd || status=1
 wait $even || status=1

@@ -71,5 +71,6 @@ fn symbols(archive: &[u8]) -> Option<&[u8]> {
     let size = header.strip_prefix(b"/ ").and(header.get(48..58))?;
     let size = std::str::from_utf8(size).ok()?.trim_end().parse().ok()?;
     let (count, rest) = rest.get(..size)?.split_first_chunk()?;
-    rest.get(4 * u32::from_be_bytes(*count) as usize..)
+    let count = usize::try_from(u32::from_be_bytes(*count)).ok()?;
+    rest.get(count.checked_mul(4)?..)
 }

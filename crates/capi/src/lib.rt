@@ -102,10 +102,11 @@ pub extern "C" fn homvaits_layout() -> u32
     LAYOUT
 }
 
-// The same, under a name that has the number, for linkers and build scripts.
+// The same, under a name that has the number, for linkers and build scripts. It promises the number in its name, so another number wants
+// another name.
 #[no_mangle]
 pub extern "C" fn homvaits_layout_1() -> u32
-    ensures { λ r. ⌜ r ≡ layout ⌝ }
+    ensures { λ r. ⌜ r ≡ 1 ⌝ }
 {
     homvaits_layout()
 }

@@ -24,8 +24,8 @@ use Rattle.jobs.specs.Jobs as jobs-jobs
 use Rattle.timing.specs.Tasks as timing-tasks
 use Rattle.timing.specs.Calls as timing-calls
 use Rattle.timing.specs.OnTime as timing-on-time
-use Rattle.state.specs.State as dispatcher-state
-use Rattle.state.specs.Operations as dispatcher-operations
+use Rattle.state.specs.State as core-state
+use Rattle.state.specs.Operations as core-operations
 use Rattle.dispatcher.specs.Starts as dispatcher-starts
 use Rattle.margin.specs.Margin as margin-margin
 use Rattle.margin.specs.Answers as margin-answers
@@ -50,5 +50,5 @@ full-none-below zero m a =
 full-none-below (suc j) m a = absurd (let z : _≡_ {A = ℕ} 0 1 = cc (a, full-unlisted j) in omega arith)
 
 pub sooner-false : ((l : List ℕ) → NoneBelowZero l → (cs : List Call) (j : ℕ) → EndsBy (jobPeriod l j - 1) (jobBudget l j) j (benchLog l cs)) → ⊥
-unfolding sheet-numbers.word sheet-table.scan sheet-table.whole sheet-ranges.outOf sheet-ranges.badPeriod sheet-ranges.badBudget fit-lists.numbers fit-lists.find fit-priority.above fit-priority.insert fit-priority.isOn fit-priority.enter fit-priority.order fit-ring.orderBy jobs-jobs.jobCount jobs-jobs.listRows timing-tasks.pending timing-tasks.early timing-tasks.named timing-tasks.withJob timing-tasks.released timing-tasks.used timing-tasks.older timing-calls.releaseAnswer timing-calls.ofFirst timing-calls.modify timing-calls.answerBy timing-calls.nextBy timing-calls.nextStroke timing-calls.answer timing-calls.next timing-calls.log timing-on-time.count timing-on-time.toTick timing-on-time.toFinish timing-on-time.servedTo timing-on-time.isAccepted timing-on-time.isTick timing-on-time.isRun timing-on-time.isFinish timing-on-time.Ended dispatcher-state.withState dispatcher-state.distinct dispatcher-state.above dispatcher-state.each dispatcher-state.eachPair dispatcher-state.strokeSound dispatcher-state.foreign dispatcher-operations.ask dispatcher-operations.step dispatcher-starts.freshTasks dispatcher-starts.stateOf dispatcher-starts.listState
+unfolding sheet-numbers.word sheet-table.scan sheet-table.whole sheet-ranges.outOf sheet-ranges.badPeriod sheet-ranges.badBudget fit-lists.numbers fit-lists.find fit-priority.above fit-priority.insert fit-priority.isOn fit-priority.enter fit-priority.order fit-ring.orderBy jobs-jobs.jobCount jobs-jobs.listRows timing-tasks.pending timing-tasks.early timing-tasks.named timing-tasks.withJob timing-tasks.released timing-tasks.used timing-tasks.older timing-calls.releaseAnswer timing-calls.ofFirst timing-calls.modify timing-calls.answerBy timing-calls.nextBy timing-calls.nextStroke timing-calls.answer timing-calls.next timing-calls.log timing-on-time.count timing-on-time.toTick timing-on-time.toFinish timing-on-time.servedTo timing-on-time.isAccepted timing-on-time.isTick timing-on-time.isRun timing-on-time.isFinish timing-on-time.Ended core-state.withState core-state.distinct core-state.above core-state.each core-state.eachPair core-state.strokeSound core-state.foreign core-operations.ask core-operations.step dispatcher-starts.freshTasks dispatcher-starts.stateOf dispatcher-starts.listState
 sooner-false law = ⊎-elim (λ x. omega arith) (λ x. omega arith) (law full full-none-below (release 0 ∷ tick ∷ []) 0 [] [] [] (served 0) refl refl)

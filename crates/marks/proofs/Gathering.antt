@@ -141,7 +141,7 @@ place-take q (suc n) (x ∷ l) = go (q x) (place-take q n l)
 -- words of 64 bytes
 module _ (m : List ℕ) (k : Bytes m) where
   pub eight : (g : ℕ) → g < 8 → length (take 8 (drop (8 * g) m)) ≡ 8
-  eight g h = length-take-le 8 (drop (8 * g) m) (simp length-drop (omega (arith, k .room)))
+  eight g h = length-take-le 8 (drop (8 * g) m) (simp length-drop (omega (arith, k .places)))
 
   pub bytes : (g : ℕ) → Each (λ x. x < 256) (take 8 (drop (8 * g) m))
   bytes g = each-take (λ x. x < 256) 8 (drop (8 * g) m) (each-halves (λ x. x < 256) (take (8 * g) m) (drop (8 * g) m) (rw take-append-drop (k .small)) .1)
@@ -155,7 +155,7 @@ sought-start m k = place-start marked m
 
 module _ (m : List ℕ) (count most : ℕ) (cut : most ≡ min count 64) where
   pub sought-end : (g : ℕ) → most ≤ 8 * g → Sought m g → Bytes m → most ≡ placeOf marked (take count m)
-  sought-end g h b k = omega (arith, cut, place-take marked count m, b k .place, place-within marked m, k .room)
+  sought-end g h b k = omega (arith, cut, place-take marked count m, b k .place, place-within marked m, k .places)
 
   module _ (g w : ℕ) (h : 8 * g < most) (b : Sought m g) (e : w ≡ wordAt m g) where
     -- a word that is zero is passed over
@@ -197,7 +197,7 @@ mark-marked t = go (pending t)
 module _ (s : List Task) where
   pub marks-bytes : length s ≤ 64 → Bytes (marksOf s)
   unfolding marksOf padded Each
-  marks-bytes few = record { room = padded-length (map mark s) (simp length-map few); small = each-append (λ x. x < 256) (map mark s) _ (each-mark s) (each-zero (64 - length (map mark s))) }
+  marks-bytes few = record { places = padded-length (map mark s) (simp length-map few); small = each-append (λ x. x < 256) (map mark s) _ (each-mark s) (each-zero (64 - length (map mark s))) }
     where
       each-mark : (l : List Task) → Each (λ x. x < 256) (map mark l)
       each-mark [] = tt

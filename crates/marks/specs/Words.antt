@@ -25,7 +25,7 @@ marksOf s = padded (map mark s)
 
 -- 64 bytes, as every array of so many is; of one that is lent the language tells neither its length nor that its elements are bytes
 pub record Bytes (m : List ℕ) : Type 0 where
-  pub room : length m ≡ 64
+  pub places : length m ≡ 64
   pub small : Each (λ x. x < 256) m
 
 -- bytes as one number, the first of them lowest

@@ -8,8 +8,9 @@ use Rattle.state.specs.declared.Core.{Core}
 use Rattle.state.specs.declared.Step.{Step}
 use Rattle.state.specs.declared.Answer.{Answer}
 use Rattle.state.specs.declared.Answer.the-variants.{Accepted, Served, Idle, Refused}
-use Rattle.state.specs.Operations.{answerOf, answerByte, Operation}
-use Rattle.row.specs.Row.{TickedBy}
+use Rattle.state.specs.Operations.{answerOf, Operation}
+use Rattle.row.specs.Bytes.{answerByte}
+use Rattle.row.specs.Steps.{TickedBy}
 
 module _ (a : Answer) where
   pub byte-served : (j : ℕ) → a ≡ Served j → j ≡ answerByte (answerOf a)

@@ -19,7 +19,8 @@ use Rattle.timing.specs.Calls.{Call, tick, accepted, served, idle, tickAnswer, 
 use Rattle.timing.proofs.Runs.{log-append, run-both}
 use Rattle.state.specs.declared.Core.{Core}
 use Rattle.state.specs.State.{tasksOf, strokeIn, foreign}
-use Rattle.state.specs.Operations.{ask, step, answerByte}
+use Rattle.state.specs.Operations.{ask, step}
+use Rattle.row.specs.Bytes.{answerByte}
 use Rattle.dispatcher.specs.Starts.{stateOf, sheetAnswer, sheetState}
 use Rattle.dispatcher.specs.OnTime.{KeptOn}
 use Rattle.state.proofs.Foreign.{foreign-form, form-foreign}

@@ -1,2 +1,4 @@
+pub mod Bytes
 pub mod Row
+pub mod Steps
 pub mod OnTime

@@ -1,6 +1,5 @@
 -- A row of core states on one beat (docs/SHEET.md, section 13).
 use Prim.Native.Nat.{ℕ}
-use mathlib.Core.Path.{_≡_}
 use mathlib.Core.Bool.{cond}
 use mathlib.Core.List.{List, map}
 use lib.ListN.{length}
@@ -10,10 +9,10 @@ use Rattle.sheet.specs.Refusals.{numberOf}
 use Rattle.timing.specs.Calls.{tick}
 use Rattle.state.specs.declared.Core.{Core}
 use Rattle.state.specs.State.{foreign}
-use Rattle.state.specs.Operations.{ask, step, answerByte}
+use Rattle.state.specs.Operations.{ask, step}
+use Rattle.row.specs.Bytes.{answerByte}
 use Rattle.row.specs.declared.RowAnswer.{RowAnswer}
 use Rattle.row.specs.declared.RowAnswer.the-variants.{Ticked, Refused}
-use Rattle.row.specs.declared.TickedCore.{TickedCore}
 
 -- what a call on a row answers: every state was given its tick, or the call is refused with a number and a place and none was
 pub data Outcome : Type 0 where
@@ -45,8 +44,3 @@ written row bytes = over (map (λ s. answerByte (ask tick s)) row) bytes
 unfoldable pub rowBytes : Outcome → List Core → List ℕ → List ℕ
 rowBytes ticked row bytes = written row bytes
 rowBytes (refused n p) row bytes = bytes
-
--- what the tick of a state gives where its answer is a byte; no public contract speaks of it
-pub record TickedBy (s : Core) (r : TickedCore) : Type 0 where
-  pub byte : r .byte ≡ answerByte (ask tick s)
-  pub core : r .core ≡ step tick s

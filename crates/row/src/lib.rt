@@ -6,8 +6,10 @@ ghost use lib.ListN.{length, set};
 ghost use Rattle.fit.specs.Lists.{placeOf};
 ghost use Rattle.timing.specs.Calls.{tick};
 ghost use Rattle.state.specs.State.{foreign};
-ghost use Rattle.state.specs.Operations.{answerOf, ask, step, answerByte};
-ghost use Rattle.row.specs.Row.{TickedBy, written, outcomeOf, rowOutcome, rowStates, rowBytes};
+ghost use Rattle.state.specs.Operations.{answerOf, ask, step};
+ghost use Rattle.row.specs.Bytes.{answerByte};
+ghost use Rattle.row.specs.Row.{written, outcomeOf, rowOutcome, rowStates, rowBytes};
+ghost use Rattle.row.specs.Steps.{TickedBy};
 ghost use Rattle.row.specs.OnTime.{coreAt, RowRuns};
 use sheet::Refusal;
 use state::Answer;
@@ -65,7 +67,7 @@ fn tick_byte(core: Core) -> TickedCore
     }
 }
 
-// The state at a position is given its tick. The loop's body is a function of its own, so that the compiler keeps one copy of the state less.
+// The state at a position is given its tick. The loop's body is a function of its own, so that its proof is of one position.
 fn tick_at(row: &mut [Core], answers: &mut [u8], i: usize)
     requires { ⌜ (i < length (now row)) × (i < length (now answers)) ⌝ }
     ensures states { λ _. ⌜ now (row .exit) ≡ set (now (row .entry)) i (step tick (coreAt (now (row .entry)) i)) ⌝ }

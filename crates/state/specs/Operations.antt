@@ -44,10 +44,3 @@ pub record Unaltered (s : Core) (r : Step) : Type 0 where
 -- nothing is pending
 pub record Serves (s : Core) (r : Step) : Type 0 where
   pub goes : foreign s ≡ false → TickGoes (stateIn s) (answerOf (r .answer))
-
--- an answer as a byte: the number of the task that has the tick, or 255 where it is idle; a tick of a state in form has no other answer
-unfoldable pub answerByte : Answer → ℕ
-answerByte accepted = 255
-answerByte (served j) = j
-answerByte idle = 255
-answerByte (refused n p) = 255

@@ -42,10 +42,11 @@ use denote.Triple.Walked.{needs, Stays, stay-slice, stay-dropped, walkOf, Walks,
 use denote.Exit.{yes}
 use Rattle.timing.specs.Calls.{tick}
 use Rattle.state.specs.declared.Core.{Core}
-use Rattle.state.specs.Operations.{ask, step, answerByte}
+use Rattle.state.specs.Operations.{ask, step}
+use Rattle.row.specs.Bytes.{answerByte}
 use Rattle.dispatcher.specs.Starts.{stateOf}
 use Rattle.row.specs.declared.TickedCore.{TickedCore}
-use Rattle.row.specs.Row.{TickedBy}
+use Rattle.row.specs.Steps.{TickedBy}
 use Rattle.row.specs.OnTime.{coreAt}
 use Rattle.row.proofs.Places.{in-reach}
 use Rattle.row.proofs.Walks.{says-both}

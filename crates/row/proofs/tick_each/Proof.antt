@@ -46,7 +46,8 @@ use Rattle.fit.specs.Lists.{over}
 use Rattle.fit.proofs.Overwriting.{overwritten, over-length, over-at, over-turn, over-end, self-turn, self-end}
 use Rattle.timing.specs.Calls.{tick}
 use Rattle.state.specs.declared.Core.{Core}
-use Rattle.state.specs.Operations.{ask, step, answerByte}
+use Rattle.state.specs.Operations.{ask, step}
+use Rattle.row.specs.Bytes.{answerByte}
 use Rattle.dispatcher.specs.Starts.{stateOf}
 use Rattle.row.specs.Row.{written}
 use Rattle.row.specs.OnTime.{coreAt}
