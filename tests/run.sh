@@ -9,15 +9,25 @@ if [ ! -f "$HOMVAITS_LIB" ]; then
 fi
 export CARGO_TARGET_DIR="${CARGO_TARGET_DIR:-$(realpath ..)/target/cargo}"
 
+# The command's tests run beside the others, in a folder of their own, since cargo builds one thing at a time in a folder.
+said=$(mktemp)
+(cd ../rust/command && CARGO_TARGET_DIR=$CARGO_TARGET_DIR/command exec cargo test -q --release --offline) > "$said" 2>&1 &
+command=$!
+trap 'kill $command 2> /dev/null || true; rm -f "$said"' EXIT
+
 cargo test -q --release --offline
 ./try-harness.sh
 cargo run -q --release --offline -p compare -- "${1:-1}" "${2:-20}"
 cargo test -q --release --offline -p compare
 (cd ../bench && cargo test -q --release --offline)
 (cd ../rust/homvaits && cargo test -q --release --offline)
-(cd ../rust/command && cargo test -q --release --offline)
 ./c.sh
 ./layout.sh
 ./needs.sh
 ./programs.sh
 ./command.sh "${1:-1}"
+wait $command || {
+    cat "$said"
+    exit 1
+}
+cat "$said"
