@@ -79,33 +79,31 @@ tick-entry (entry (release i) a) e = absurd (false≢true e)
 tick-entry (entry (finish i) a) e = absurd (false≢true e)
 tick-entry (entry tick a) e = (a, refl)
 
--- one that counts as a finish of j is an accepted finish of j
-pub finish-entry : (j : ℕ) (x : Entry) → isFinish j x ≡ true → x ≡ entry (finish j) accepted
-unfolding isFinish toFinish isAccepted
-finish-entry j (entry (release i) a) e = absurd (false≢true e)
-finish-entry j (entry tick a) e = absurd (false≢true e)
-finish-entry j (entry (finish i) a) e = go (eqb i j) refl a e
+-- a call of some kind that names i and counts as an accepted one of j is an accepted one of j
+accepted-entry : (c : ℕ → Call) (i j : ℕ) (a : Answer) → (eqb i j && isAccepted a) ≡ true → entry (c i) a ≡ entry (c j) accepted
+unfolding isAccepted
+accepted-entry c i j a e = go (eqb i j) refl a e
   where
-    go : (b : Bool) → eqb i j ≡ b → (a : Answer) → (b && isAccepted a) ≡ true → entry (finish i) a ≡ entry (finish j) accepted
-    go true x accepted y = ap (λ k. entry (finish k) accepted) (eqb-true i j x)
+    go : (b : Bool) → eqb i j ≡ b → (a : Answer) → (b && isAccepted a) ≡ true → entry (c i) a ≡ entry (c j) accepted
+    go true x accepted y = ap (λ k. entry (c k) accepted) (eqb-true i j x)
     go true x (served k) y = absurd (false≢true y)
     go true x idle y = absurd (false≢true y)
     go true x (refused n k) y = absurd (false≢true y)
     go false x a y = absurd (false≢true y)
 
+-- so one that counts as a finish of j is an accepted finish of j
+pub finish-entry : (j : ℕ) (x : Entry) → isFinish j x ≡ true → x ≡ entry (finish j) accepted
+unfolding isFinish toFinish
+finish-entry j (entry (release i) a) e = absurd (false≢true e)
+finish-entry j (entry tick a) e = absurd (false≢true e)
+finish-entry j (entry (finish i) a) e = accepted-entry finish i j a e
+
 -- and one that counts as a release of j an accepted release of j
 pub release-entry : (j : ℕ) (x : Entry) → isRelease j x ≡ true → x ≡ entry (release j) accepted
-unfolding isRelease toRelease isAccepted
+unfolding isRelease toRelease
 release-entry j (entry (finish i) a) e = absurd (false≢true e)
 release-entry j (entry tick a) e = absurd (false≢true e)
-release-entry j (entry (release i) a) e = go (eqb i j) refl a e
-  where
-    go : (b : Bool) → eqb i j ≡ b → (a : Answer) → (b && isAccepted a) ≡ true → entry (release i) a ≡ entry (release j) accepted
-    go true x accepted y = ap (λ k. entry (release k) accepted) (eqb-true i j x)
-    go true x (served k) y = absurd (false≢true y)
-    go true x idle y = absurd (false≢true y)
-    go true x (refused n k) y = absurd (false≢true y)
-    go false x a y = absurd (false≢true y)
+release-entry j (entry (release i) a) e = accepted-entry release i j a e
 
 -- each entry of a log has the answer that its call gets at the state before it
 unfoldable pub Logged : {S : Type 0} → (Call → S → Answer) → (Call → S → S) → S → List Entry → Type 0
