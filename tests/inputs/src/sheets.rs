@@ -188,7 +188,7 @@ fn fill(rng: &mut Rng, core: CoreRecord, tasks: &mut Vec<TaskRecord>) {
 }
 
 /// Among equal periods on one core the lower number has the lower factor.
-fn order_equal_periods(tasks: &mut [TaskRecord]) {
+pub(crate) fn order_equal_periods(tasks: &mut [TaskRecord]) {
     for later in 0..tasks.len() {
         for earlier in 0..later {
             let (a, b) = (tasks[earlier], tasks[later]);
@@ -410,7 +410,7 @@ pub(crate) fn get16(bytes: &[u8], at: usize) -> u64 {
     u16::from_le_bytes([bytes[at], bytes[at + 1]]) as u64
 }
 
-fn get32(bytes: &[u8], at: usize) -> u64 {
+pub(crate) fn get32(bytes: &[u8], at: usize) -> u64 {
     get16(bytes, at) + 65_536 * get16(bytes, at + 2)
 }
 
@@ -418,6 +418,6 @@ pub(crate) fn put16(bytes: &mut [u8], at: usize, number: u64) {
     bytes[at..at + 2].copy_from_slice(&(number as u16).to_le_bytes());
 }
 
-fn put32(bytes: &mut [u8], at: usize, number: u64) {
+pub(crate) fn put32(bytes: &mut [u8], at: usize, number: u64) {
     bytes[at..at + 4].copy_from_slice(&(number as u32).to_le_bytes());
 }
