@@ -1,19 +1,19 @@
-//! A checker of timing sheets in one file, written to be read. It needs a Rust compiler and nothing else:
-//!
-//!     rustc --edition 2021 -O docs/checker.rs -o checker
-//!     ./checker < SHEET
-//!
-//! A timing sheet is a file of at most 712 bytes. It says which core of a machine runs each of up to
-//! 64 tasks, how often a task comes (its period, in ticks) and how many ticks it then needs (its
-//! budget), and it carries figures (pivot, divisor, factor) that show that every job ends on time.
-//! The checker says whether they do show it. docs/SHEET.md has the whole specification; the sections
-//! named below are its sections. Section 4 is the list of rules, and the rules stand here in its order.
-//!
-//! The answer is one line. `accepted tasks 2 cores 1`: no rule is broken, and a machine can run by the
-//! sheet. `refused 14 place 64`: rule 14 is the first that is broken. The place is the task's number
-//! (in version 2 its position), or 64 plus the core's number, or for rule 6 the offset of the byte, or
-//! 0 where nothing is named. The exit status is 0 for accepted, 1 for refused, and 2 if standard input
-//! cannot be read or standard output cannot be written.
+// A checker of timing sheets in one file, written to be read. It needs a Rust compiler and nothing else:
+//
+//     rustc --edition 2021 -O docs/checker.rs -o checker
+//     ./checker < SHEET
+//
+// A timing sheet is a file of at most 712 bytes. It says which core of a machine runs each of up to
+// 64 tasks, how often a task comes (its period, in ticks) and how many ticks it then needs (its
+// budget), and it carries figures (pivot, divisor, factor) that show that every job ends on time.
+// The checker says whether they do show it. docs/SHEET.md has the whole specification; the sections
+// named below are its sections. Section 4 is the list of rules, and the rules stand here in its order.
+//
+// The answer is one line. `accepted tasks 2 cores 1`: no rule is broken, and a machine can run by the
+// sheet. `refused 14 place 64`: rule 14 is the first that is broken. The place is the task's number
+// (in version 2 its position), or 64 plus the core's number, or for rule 6 the offset of the byte, or
+// 0 where nothing is named. The exit status is 0 for accepted, 1 for refused, and 2 if standard input
+// cannot be read or standard output cannot be written.
 
 use std::io::{self, Read, Write};
 use std::process::ExitCode;
