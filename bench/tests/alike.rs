@@ -14,6 +14,11 @@ fn check() {
             assert_eq!(binding::check(&sheet), expected);
         }
     }
+    for sheet in archive(1, 30_000) {
+        let expected = reference::check(&sheet);
+        assert_eq!(plain::check(&sheet), expected);
+        assert_eq!(binding::check(&sheet), expected);
+    }
 }
 
 /// Accepted and damaged sheets of all versions.

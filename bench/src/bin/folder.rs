@@ -1,11 +1,11 @@
-//! Times `homvaits check` on a folder of 100,000 sheets against reading the
-//! files alone. Arguments: seed, and the path of the program `homvaits`.
+//! Times `homvaits check` on a folder of 100,000 sheets of all versions against
+//! reading the files alone. Arguments: seed, and the path of the program
+//! `homvaits`.
 //!
-//! Each side is a process that walks the folder and uses all processors. The
-//! files have just been written, so no disk is timed.
+//! Each side is a process that walks the folder and uses all processors, one of
+//! them the first processor alone where there is a `taskset`. The files have
+//! just been written, so no disk is timed.
 
-use bench::workload;
-use inputs::Rng;
 use std::env;
 use std::fs::{self, File};
 use std::io::{self, Read};
@@ -43,7 +43,7 @@ struct Folder {
 impl Folder {
     fn filled(seed: u64) -> Folder {
         let name = format!("homvaits-folder-{}", std::process::id());
-        let sheets = workload::sheets(&mut Rng::new(seed), SHEETS);
+        let sheets = inputs::archive(seed, SHEETS);
         let accepted = |sheet: &&Vec<u8>| reference::check(sheet).refusal == 0;
         let folder = Folder {
             path: env::temp_dir().join(name),
@@ -88,7 +88,8 @@ fn assert_counts(folder: &Folder, program: &str) {
     assert!(text.lines().any(|line| line == summary), "not {summary}");
 }
 
-/// Print the best time of each side, and its ratio to that of reading alone.
+/// Print the best time of each side, its ratio to that of reading alone, and its
+/// rate.
 fn compare(folder: &Path, program: &str) {
     let this = env::current_exe().expect("this program has a path");
     let mut reading = Command::new(this);
@@ -98,26 +99,34 @@ fn compare(folder: &Path, program: &str) {
         command.arg("check").args(options);
         command
     };
-    let mut sides = [
+    let mut sides = vec![
         ("reading alone", reading),
         ("check --quiet", checking(&["--quiet"])),
         ("check", checking(&[])),
         ("check --json", checking(&["--json"])),
     ];
+    let one = ["-c", "0"];
+    let taskset = Command::new("taskset").args(one).arg("true").status();
+    if taskset.is_ok_and(|status| status.success()) {
+        let mut command = Command::new("taskset");
+        command.args(one).args([program, "check", "--quiet"]);
+        sides.push(("check --quiet, one processor", command));
+    }
     for (_, side) in &mut sides {
         side.arg(folder).stdout(Stdio::null());
     }
-    let mut best = [Duration::MAX; 4];
+    let mut best = vec![Duration::MAX; sides.len()];
     for _ in 0..PASSES {
         for (best, (_, side)) in best.iter_mut().zip(&mut sides) {
             *best = time(side).min(*best);
         }
     }
-    for ((name, _), time) in sides.iter().zip(best) {
+    for ((name, _), time) in sides.iter().zip(&best) {
         println!(
-            "  {name:<13} {:>4} ms, ratio {:.2}",
+            "  {name:<28} {:>4} ms, ratio {:.2}, {:>7.0} sheets a second",
             time.as_millis(),
-            time.as_secs_f64() / best[0].as_secs_f64()
+            time.as_secs_f64() / best[0].as_secs_f64(),
+            SHEETS as f64 / time.as_secs_f64()
         );
     }
 }
