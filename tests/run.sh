@@ -21,6 +21,7 @@ cargo run -q --release --offline -p compare -- "${1:-1}" "${2:-20}"
 cargo test -q --release --offline -p compare
 (cd ../bench && cargo test -q --release --offline)
 (cd ../rust/homvaits && cargo test -q --release --offline)
+./simple.sh "${1:-1}"
 ./c.sh
 ./layout.sh
 ./needs.sh
