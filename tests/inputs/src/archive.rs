@@ -6,9 +6,9 @@ use crate::*;
 /// So many sheets of versions 1 to 3, accepted and refused; sheet i is made in
 /// version i % 3 + 1. Of a hundred
 ///
-/// - 45 are sound: half of those with given counts have 64 tasks, the others 0
-///   to 64, on 1 to 8 cores, most of which are full (load exactly one); others
-///   are planned, or made by hand with figures of every size;
+/// - 45 are sound: six in ten have 64 tasks or, as often, 0 to 64, on 1 to 8
+///   cores, most of which are full (load exactly one); others are planned, made
+///   by hand with figures of every size, or as long as sheets get;
 /// - 25 are such with one field at the bound of a rule or one past it, for each
 ///   rule (`near_miss`), so that some of them are accepted;
 /// - 10 have one damage of another kind;
@@ -265,8 +265,11 @@ fn load(rng: &mut Rng, version: u8, bytes: &mut [u8], places: &Places, core: usi
     if divisor == 0 || tasks.iter().any(|&at| factor(at) == 0) {
         return;
     }
-    let cost = |&at: &usize| get16(bytes, at + 2) * (factor(last) / factor(at)) * divisor;
-    let used: u64 = others.iter().map(cost).sum();
-    let most = (pivot * factor(last)).saturating_sub(used) / divisor;
-    put16(bytes, last + 2, most.min(60_000) + rng.below(2));
+    // factors and divisors may be out of range
+    let cost = |&at: &usize| {
+        get16(bytes, at + 2) as u128 * (factor(last) / factor(at)) as u128 * divisor as u128
+    };
+    let used: u128 = others.iter().map(cost).sum();
+    let most = ((pivot * factor(last)) as u128).saturating_sub(used) / divisor as u128;
+    put16(bytes, last + 2, most.min(60_000) as u64 + rng.below(2));
 }
