@@ -19,6 +19,10 @@ cargo test -q --release --offline
 ./try-harness.sh
 cargo run -q --release --offline -p compare -- "${1:-1}" "${2:-20}"
 cargo test -q --release --offline -p compare
+rm -rf "$CARGO_TARGET_DIR/vectors"
+cargo run -q --release --offline -p vectors -- "$CARGO_TARGET_DIR/vectors"
+diff -r "$CARGO_TARGET_DIR/vectors" ../vectors
+cargo test -q --release --offline -p vectors
 (cd ../bench && cargo test -q --release --offline)
 (cd ../rust/homvaits && cargo test -q --release --offline)
 ./simple.sh "${1:-1}"
