@@ -3,6 +3,8 @@ pub mod Once
 pub mod Filling
 pub mod Numbering
 pub mod Selecting
+pub mod Passing
+pub mod Parts
 pub mod Ordering
 pub mod Grouped
 pub mod ByNumber

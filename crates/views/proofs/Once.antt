@@ -7,24 +7,19 @@ use mathlib.Core.List.{map}
 use native.Mathlib.Nat.{zero-add}
 use native.Mathlib.Omega.{arith}
 use native.Mathlib.Decide.{decLt, decLe, ℕ-discrete}
-use borrow.Author.Tests.{ltb-true, lt-ltb, ne-eqb, eqb-true, not-false}
+use borrow.Author.Tests.{ltb-true, lt-ltb, eqb-true, not-false}
 use lib.Arith.{lt-of-le-ne}
 use lib.Dec.{ltb}
 use lib.ListN.{length, length-map}
 use Rattle.fit.specs.Lists.{numbers, select}
 use Rattle.fit.proofs.Lists.{numbers-length, select-all}
-use Rattle.fit.proofs.Some.{some-hit, some-none, none-some}
+use Rattle.fit.proofs.Some.{some-none, none-some}
 use Rattle.fit.proofs.Counting.{sum-occurs, sum-ones, ones-sum, all-selected, each-value, value-each, times, times-at, times-twice, at-times, twice-times}
 use Rattle.views.specs.Order.{badNumbers, EachOnce}
 
 module _ (number : ℕ → ℕ) (n : ℕ) where
   many : length (map number (numbers 0 n)) ≡ n
   many = length-map (numbers 0 n) number ∙ numbers-length 0 n
-
-  -- the test fails where a number below n does not stand once
-  pub not-once : (i : ℕ) → i < n → (times number i n ≡ 1 → ⊥) → badNumbers number n ≡ true
-  unfolding badNumbers
-  not-once i h e = some-hit _ n i h (rw (ne-eqb (times number i n) 1 e))
 
   all-once : ((i : ℕ) → i < n → times number i n ≡ 1) → badNumbers number n ≡ false
   unfolding badNumbers
