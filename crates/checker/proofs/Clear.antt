@@ -1,6 +1,6 @@
 -- The ways out of the rules, as the code takes them: a part of the table is broken, or is clear and the next one is looked at.
 -- Assumes nothing.
-use Prim.Native.Nat.{ℕ, _-_, _*_, _≤_}
+use Prim.Native.Nat.{ℕ, _+_, _-_, _*_, _≤_}
 use mathlib.Core.Path.{_≡_, sym, ap, _∙_}
 use mathlib.Core.Bool.{Bool}
 use mathlib.Core.List.{List}
@@ -38,8 +38,8 @@ module _ (s : List ℕ) (t : Finding) (n c : ℕ) (frame : findingOf t ≡ scan 
   pub records-long : 8 ≤ length s
   records-long = omega (arith, frame-kept s (sym (ap findingOf clear) ∙ frame) .size)
 
-  pub cores-long : 10 * n ≤ length (take (length s - 8) (drop 8 s))
-  cores-long = rw (part s 8, length-drop 8 s, en) (omega (arith, frame-kept s (sym (ap findingOf clear) ∙ frame) .size))
+  pub cores-long : 10 * n + 8 * c ≤ length (take (length s - 8) (drop 8 s))
+  cores-long = rw (part s 8, length-drop 8 s, en, ec) (omega (arith, frame-kept s (sym (ap findingOf clear) ∙ frame) .size))
 
   pub tasks-few : n ≤ 64
   tasks-few = rw en (frame-kept s (sym (ap findingOf clear) ∙ frame) .tasks)

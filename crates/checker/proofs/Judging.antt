@@ -1,6 +1,6 @@
 -- Rules 13 and 14 at one core: what the code finds of its tasks in priority order is what the rules say.
 -- Assumes nothing.
-use Prim.Native.Nat.{ℕ, _+_, _-_, _≤_, _<_, min}
+use Prim.Native.Nat.{ℕ, _+_, _-_, _*_, _≤_, _<_, min}
 use mathlib.Core.Path.{_≡_, refl, sym, ap, subst, _∙_}
 use mathlib.Core.Bool.{Bool, true, false, cond}
 use mathlib.Core.Option.{Option, none, some}
@@ -9,75 +9,78 @@ use native.Mathlib.Omega.{arith}
 use native.Mathlib.Nat.{sub-zero}
 use native.Mathlib.Decide.{ℕ-discrete}
 use borrow.Author.Tests.{ne-eqb}
-use lib.ListN.{take}
+use lib.ListN.{length, take, drop}
 use lib.Dec.{eqb}
 use Rattle.sheet.specs.Records.{Figures}
-use Rattle.fit.specs.declared.Order.{Order}
 use Rattle.fit.specs.declared.Chain.{Chain}
 use Rattle.fit.specs.declared.Chain.the-variants.{Whole, Broken}
-use Rattle.fit.specs.Lists.{numbers, find, findSome, at, Each}
-use Rattle.fit.specs.Priority.{order, tasksOn, Above}
-use Rattle.fit.specs.Fits.{Multiples, levelOverloaded}
-use Rattle.fit.specs.Answers.{Column, Ordered, chainAnswer, chained}
+use Rattle.fit.specs.Lists.{numbers, find, findSome, at, padded, Each}
+use Rattle.fit.specs.Priority.{order, Above}
+use Rattle.fit.specs.Fits.{chainBreak, levelOverloaded}
+use Rattle.fit.specs.Answers.{Column, chainAnswer, chained}
 use Rattle.fit.proofs.Lists.{each-of}
 use Rattle.fit.proofs.Finds.{front}
-use Rattle.fit.proofs.Priority.{order-members, order-ext}
-use Rattle.fit.proofs.Presorted.{order-sorted}
-use Rattle.fit.proofs.Levels.{chain-multiples}
+use Rattle.fit.proofs.Priority.{order-members}
+use Rattle.order.specs.Cores.{onCores, ByCore, endOn}
+use Rattle.order.proofs.Cutting.{standing-by-core, by-core-size, by-core-ext, cut-end, cut-part, cut-rises, cut-inside}
 use Rattle.checker.specs.declared.fits.Judged.{Judged}
 use Rattle.checker.specs.declared.fits.Judged.the-variants.{Chained, Unchained}
 use Rattle.fit.specs.Cores.{orderOn}
 use Rattle.checker.specs.Tests.{chainBreakOn, overloadedOn}
 use Rattle.checker.specs.Steps.{judged, Sorted, InRange, firstOver}
 
--- where the positions are sorted by the periods of the records, they are by the code's column of them
-pub column-sorted : (f : Figures) (periods : List ℕ) (b : Bool) → Column (f .period) (min (f .tasks) 64) periods → (b ≡ true → Sorted f) → (i j : ℕ) → b ≡ true → i < j → j < min (f .tasks) 64 → f .core i ≡ f .core j → Above (at periods) i j
-unfolding Sorted Above
-column-sorted f periods b column s i j t h q e = rw (column .below i (omega arith), column .below j q) (s t i j h (omega arith) e)
+-- tasks that stand core by core are taken as they stand, others by a column of their periods
+pub order-standing : (p core : ℕ → ℕ) (n : ℕ) (list : List ℕ) (b : Bool) → ((i : ℕ) → core i < 256) → ((i j : ℕ) → b ≡ true → i < j → j < n → core i ≤ core j) → ((i j : ℕ) → b ≡ true → i < j → j < n → core i ≡ core j → Above p i j) → b ≡ true → list ≡ padded (numbers 0 n) → ByCore p core n list
+order-standing p core n list b bytes rises above t e = standing-by-core p core n (λ i j. rises i j t) (λ i j. above i j t) (λ i h. bytes i) list e
 
--- sorted positions are taken as they stand
-pub sorted-order : (p core : ℕ → ℕ) (k n : ℕ) (o : Order) (b : Bool) → ((i j : ℕ) → b ≡ true → i < j → j < n → core i ≡ core j → Above p i j) → b ≡ true → Ordered (tasksOn core k n) o → Ordered (order p core k n) o
-sorted-order p core k n o b s t h = subst (λ l. Ordered l o) (sym (order-sorted p core k n (λ i j. s i j t))) h
+pub order-ranked : (p core : ℕ → ℕ) (n : ℕ) (periods list : List ℕ) → Column p n periods → ByCore (at periods) core n list → ByCore p core n list
+order-ranked p core n periods list c b = by-core-ext (at periods) p core n list (c .below) b
 
-answer-broken : (o : Option ℕ) (L i : ℕ) → Broken i ≡ chainAnswer o L → o ≡ some i
-unfolding chainAnswer
-answer-broken none L i e = absurd (let z : _≡_ {A = ℕ} 0 1 = cc in omega arith)
-answer-broken (some j) L i e = cc
+-- what fit_rules hands to the order
+module _ (f : Figures) (b : Bool) (s : b ≡ true → Sorted f) where
+  pub sorted-cores : (i j : ℕ) → b ≡ true → i < j → j < min (f .tasks) 64 → f .core i ≤ f .core j
+  sorted-cores i j t h q = s t .cores i j h (omega arith)
 
-answer-whole : (o : Option ℕ) (L m : ℕ) → Whole m ≡ chainAnswer o L → o ≡ none
-unfolding chainAnswer
-answer-whole none L m e = refl
-answer-whole (some j) L m e = absurd (let z : _≡_ {A = ℕ} 0 1 = cc in omega arith)
+  pub sorted-above : (i j : ℕ) → b ≡ true → i < j → j < min (f .tasks) 64 → f .core i ≡ f .core j → Above (f .period) i j
+  sorted-above i j t h q e = s t .above i j h (omega arith) e
 
-module _ (f : Figures) (k : ℕ) (periods : List ℕ) (o : Order) (chain : Chain) (r : InRange f) (column : Column (f .period) (min (f .tasks) 64) periods) (s : Ordered (order (at periods) (f .core) k (min (f .tasks) 64)) o) (h : chain ≡ chained (f .factor) (take (o .count) (o .tasks))) where
-  listed : take (o .count) (o .tasks) ≡ orderOn f k
+-- The part of core k in the list is its tasks in priority order.
+module _ (f : Figures) (k from : ℕ) (list : List ℕ) (r : InRange f) (h : k < 256) (b : ByCore (f .period) (f .core) (min (f .tasks) 64) list) (start : from ≡ length (onCores (f .period) (f .core) k (min (f .tasks) 64))) where
+  pub part-rises : (to : ℕ) → to ≡ endOn (f .core) k list from (min (f .tasks) 64) → (from ≤ to) × (to ≤ length list) × (to ≤ 64)
+  part-rises to e =
+      let inside : to ≤ 64 = rw e (omega (arith, cut-inside (f .period) (f .core) (min (f .tasks) 64) k from list (omega arith) h b start)) in
+      (rw e (cut-rises (f .period) (f .core) (min (f .tasks) 64) k from list (omega arith) h b start), omega (arith, by-core-size (f .period) (f .core) (min (f .tasks) 64) list (omega arith) b), inside)
+
+  pub part-next : (to : ℕ) → to ≡ endOn (f .core) k list from (min (f .tasks) 64) → to ≡ length (onCores (f .period) (f .core) (k + 1) (min (f .tasks) 64))
+  part-next to e = e ∙ cut-end (f .period) (f .core) (min (f .tasks) 64) k from list (omega arith) h b start
+
+  part-order : (to : ℕ) → to ≡ endOn (f .core) k list from (min (f .tasks) 64) → take (to - from) (drop from list) ≡ orderOn f k
   unfolding orderOn
-  listed =
+  part-order to e =
       let n : min (f .tasks) 64 ≡ f .tasks = omega (arith, r .count) in
-      s .tasks ∙ order-ext (at periods) (f .period) (f .core) k (min (f .tasks) 64) (column .below) ∙ ap (order (f .period) (f .core) k) n
+      rw e (cut-part (f .period) (f .core) (min (f .tasks) 64) k from list (omega arith) h b start) ∙ ap (order (f .period) (f .core) k) n
 
-  pub judge-broken : (i : ℕ) → chain ≡ Broken i → Unchained i ≡ judged (chainBreakOn f k) (overloadedOn f k)
-  unfolding judged chained chainBreakOn
-  judge-broken i e = rw (← listed, answer-broken _ _ i (sym e ∙ h))
+  pub part-members : (to : ℕ) → to ≡ endOn (f .core) k list from (min (f .tasks) 64) → (tasks : List ℕ) → 10 * f .tasks ≤ length tasks → Each (λ i. (10 * i + 10 ≤ length tasks) × (0 < f .factor i)) (take (to - from) (drop from list))
+  unfolding orderOn
+  part-members to e tasks long = subst (Each _) (sym (part-order to e)) (each-of {P = λ i. (i < f .tasks) × (f .core i ≡ k)} _ (λ i m. (omega (arith, m .0), r .factors i (m .0))) (order-members (f .period) (f .core) k (f .tasks)))
 
-  module _ (last Q D : ℕ) (b : Bool) (e : chain ≡ Whole last) (eq : Q ≡ f .pivot k) (ed : D ≡ f .divisor k) (t : Multiples (f .factor) 1 (take (o .count) (o .tasks)) → Each (λ i. 0 < f .factor i) (take (o .count) (o .tasks)) → b ≡ levelOverloaded (f .budget) (f .stroke) (f .factor) Q D (take (o .count) (o .tasks))) where
-    whole : chainBreakOn f k ≡ none
-    unfolding chained chainBreakOn
-    whole = rw (← listed) (answer-whole _ _ last (sym e ∙ h))
+  pub part-judged : (to Q D : ℕ) (x : Judged) → to ≡ endOn (f .core) k list from (min (f .tasks) 64) → Q ≡ f .pivot k → D ≡ f .divisor k → x ≡ judged (chainBreak (f .factor) 1 (take (to - from) (drop from list))) (levelOverloaded (f .budget) (f .stroke) (f .factor) Q D (take (to - from) (drop from list))) → x ≡ judged (chainBreakOn f k) (overloadedOn f k)
+  unfolding chainBreakOn overloadedOn
+  part-judged to Q D x e eq ed t = t ∙ rw (part-order to e, eq, ed)
 
-    members : Each (λ i. (i < f .tasks) × (f .core i ≡ k)) (orderOn f k)
-    unfolding orderOn
-    members = order-members (f .period) (f .core) k (f .tasks)
+-- what is said of a core that is over
+over-answer : (o : Option ℕ) (L : ℕ) (x : Chain) → x ≡ chainAnswer o L → ((i : ℕ) → x ≡ Broken i → Unchained i ≡ judged o true) × ((m : ℕ) → x ≡ Whole m → Chained true ≡ judged o true)
+unfolding chainAnswer judged
+over-answer none L x e = ((λ i h. absurd (let z : _≡_ {A = Chain} (Broken i) (Whole L) = sym h ∙ e in let y : _≡_ {A = ℕ} 0 1 = cc in omega arith)), (λ m h. refl))
+over-answer (some j) L x e = ((λ i h. let z : _≡_ {A = Chain} (Broken i) (Broken j) = sym h ∙ e in cc), (λ m h. absurd (let z : _≡_ {A = Chain} (Whole m) (Broken j) = sym h ∙ e in let y : _≡_ {A = ℕ} 0 1 = cc in omega arith)))
 
-    over : b ≡ overloadedOn f k
-    unfolding overloadedOn chainBreakOn
-    over =
-        t (rw listed (chain-multiples (f .factor) 1 (orderOn f k) whole)) (rw listed (each-of _ (λ i m. r .factors i (m .0)) members))
-        ∙ rw (listed, eq, ed)
+pub over-broken : (M : ℕ → ℕ) (l : List ℕ) (x : Chain) (i : ℕ) → x ≡ chained M l → x ≡ Broken i → Unchained i ≡ judged (chainBreak M 1 l) true
+unfolding chained
+over-broken M l x i e = over-answer (chainBreak M 1 l) _ x e .0 i
 
-    pub judge-whole : Chained b ≡ judged (chainBreakOn f k) (overloadedOn f k)
-    unfolding judged
-    judge-whole = rw (whole, ← over)
+pub over-whole : (M : ℕ → ℕ) (l : List ℕ) (x : Chain) (m : ℕ) → x ≡ chained M l → x ≡ Whole m → Chained true ≡ judged (chainBreak M 1 l) true
+unfolding chained
+over-whole M l x m e = over-answer (chainBreak M 1 l) _ x e .1 m
 
 judged-broken : (o : Option ℕ) (b : Bool) (i : ℕ) → Unchained i ≡ judged o b → o ≡ some i
 unfolding judged

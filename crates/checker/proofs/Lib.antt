@@ -2,6 +2,8 @@ pub mod Answers
 pub mod Offsets
 pub mod Spares
 pub mod Bare
+pub mod Reading
+pub mod OnePass
 pub mod Judging
 pub mod Columns
 pub mod Clear

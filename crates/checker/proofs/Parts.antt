@@ -17,6 +17,7 @@ use Rattle.sheet.proofs.Scans.{scan-clear, scan-clears, whole-clear}
 use Rattle.fit.specs.Lists.{at}
 use Rattle.fit.specs.Answers.{Column}
 use Rattle.views.specs.Order.{misordered}
+use Rattle.views.proofs.Counts.{core-rises}
 use Rattle.views.proofs.Grouped.{grouped-sorted}
 use Rattle.checker.specs.Tests.{badOrder}
 use Rattle.checker.specs.Rules.{taskRows, coreRows, fitRows, recordRows, partRows}
@@ -66,8 +67,10 @@ module _ (grouped stroked : Bool) (records cores on : List ℕ) (n c : ℕ) (aft
 
     -- what rules 13 and 14 need
     pub part-ready : InRange f × (grouped ≡ true → Sorted f)
-    unfolding Sorted
     part-ready = (
       clear-range b f t few e h,
-      λ g i j l m q. grouped-sorted (periodAt records) (numberAt records) (countAt cores) n c (ordered g) i j l m (sym (counted g i (omega arith)) ∙ q ∙ counted g j m),
+      λ g. record {
+        cores = λ i j l m. rw (counted g i (omega arith), counted g j m) (core-rises (countAt cores) c i j (omega arith));
+        above = λ i j l m q. grouped-sorted (periodAt records) (numberAt records) (countAt cores) n c (ordered g) i j l m (sym (counted g i (omega arith)) ∙ q ∙ counted g j m);
+      },
     )

@@ -5,12 +5,13 @@ use Rattle.sheet.specs.Table.{Row}
 use lib.Dec.{eqb}
 use Rattle.fit.specs.Priority.{Above}
 use mathlib.Core.Path.{_≡_}
-use mathlib.Core.Bool.{Bool, cond, not, _||_}
+use mathlib.Core.Bool.{Bool, false, cond, not, _||_}
+use lib.ListN.{getD}
 use mathlib.Core.Option.{Option, none, some}
 use Rattle.sheet.specs.Ranges.{badPeriod, badBudget, badStroke}
 use Rattle.sheet.specs.Records.{Figures}
 use Rattle.checker.specs.declared.early.Test.{Test}
-use Rattle.checker.specs.declared.early.Test.the-variants.{Period, Budget, Stroke, Core, Bare, Factor, Pivot, Stretch}
+use Rattle.checker.specs.declared.early.Test.the-variants.{Period, Budget, Stroke, Core, Factor, Pivot, Stretch}
 use Rattle.checker.specs.declared.fits.Judged.{Judged}
 use Rattle.checker.specs.declared.fits.Judged.the-variants.{Chained, Unchained}
 use Rattle.checker.specs.Rules.{taskRows, coreRows}
@@ -22,10 +23,13 @@ broken Period f = badPeriod (f .period)
 broken Budget f = badBudget (f .period) (f .budget)
 broken Stroke f = badStroke (f .budget) (f .stroke)
 broken Core f = badCore (f .cores) (f .core)
-broken Bare f = bare (f .tasks) (f .core)
 broken Factor f = badFactor (f .factor)
 broken Pivot f = badPivot (f .pivot) (f .divisor)
 broken Stretch f = stretchedAt f
+
+-- an array of flags, true exactly for the cores that have one of the n tasks
+pub record Used (n : ℕ) (core : ℕ → ℕ) (used : List Bool) : Type 0 where
+  pub flags : (k : ℕ) → k < 256 → not (getD used k false) ≡ bare n core k
 
 -- rules 13 and 14 at a core: its chain is broken at a task, or is whole, and then the core is over or not
 unfoldable pub judged : Option ℕ → Bool → Judged
@@ -45,9 +49,10 @@ soundAt f i =
 unfoldable pub earlyRows : Bool → Figures → List Row
 earlyRows misordered f = taskRows misordered f ++ coreRows f
 
--- the positions on each core rise in priority, so that they need no sort
-unfoldable pub Sorted : Figures → Type 0
-Sorted f = (i j : ℕ) → i < j → j < f .tasks → f .core i ≡ f .core j → Above (f .period) i j
+-- the positions stand core by core and rise in priority on each, so that they need no sort
+pub record Sorted (f : Figures) : Type 0 where
+  pub cores : (i j : ℕ) → i < j → j < f .tasks → f .core i ≤ f .core j
+  pub above : (i j : ℕ) → i < j → j < f .tasks → f .core i ≡ f .core j → Above (f .period) i j
 
 -- what rules 13 and 14 need of the figures: at most 64 tasks, and every M above 0
 pub record InRange (f : Figures) : Type 0 where

@@ -1,7 +1,8 @@
 // Rules 7 to 12, 23 and 25: the figures of tasks and cores.
 ghost use mathlib.Core.Path.{_≡_};
 ghost use mathlib.Core.Bool.{true};
-ghost use Prim.Native.Nat.{ℕ, _<_};
+ghost use Prim.Native.Nat.{ℕ, _+_, _*_, _<_, _≤_};
+ghost use lib.ListN.{length};
 ghost use Rattle.sheet.specs.Table.{scan, foundOf, findingOf};
 ghost use Rattle.sheet.specs.Ranges.{badPeriod, badBudget, badStroke};
 ghost use Rattle.sheet.specs.Records.{periodAt, budgetAt, factorAt, pivotAt, divisorAt, figuresWith};
@@ -9,7 +10,7 @@ ghost use Rattle.sheet.specs.Views.{strokeOfPosition};
 ghost use Rattle.fit.specs.Lists.{numbers, find, at};
 ghost use Rattle.checker.specs.Tests.{badCore, bare, badFactor, badPivot, stretchedAt};
 ghost use Rattle.checker.specs.Rules.{taskRows, coreRows};
-ghost use Rattle.checker.specs.Steps.{broken, soundAt, earlyRows};
+ghost use Rattle.checker.specs.Steps.{broken, Used, soundAt, earlyRows};
 use sheet::Finding;
 use sheet::Found;
 use sheet::Refusal;
@@ -20,7 +21,6 @@ enum Test {
     Budget,
     Stroke,
     Core,
-    Bare,
     Factor,
     Pivot,
     Stretch,
@@ -57,19 +57,6 @@ fn bad_core(on: &[u8], c: u8, i: u8) -> bool
     c <= sheet::byte(on, i as usize)
 }
 
-fn is_bare(on: &[u8], n: u8, k: u8) -> bool
-    ensures { λ r. ⌜ r ≡ bare n (at (now (on .entry))) k ⌝ }
-{
-    let mut i = 0;
-    while i < n {
-        if sheet::byte(on, i as usize) == k {
-            return false;
-        }
-        i += 1;
-    }
-    true
-}
-
 fn bad_factor(tasks: &[u8], i: u8) -> bool
     ensures { λ r. ⌜ r ≡ badFactor (factorAt (now (tasks .entry))) i ⌝ }
 {
@@ -88,8 +75,9 @@ fn is_stretched(stroked: bool, tasks: &[u8], cores: &[u8], on: &[u8], n: u8, c: 
     ensures { λ r. ⌜ r ≡ stretchedAt (figuresWith (at (now (on .entry))) (strokeOfPosition stroked (now (tasks .entry))) n c (now (tasks .entry)) (now (cores .entry))) i ⌝ }
 {
     let k = sheet::byte(on, i as usize);
-    let reach = fit::product(sheet::pivot(cores, k), sheet::factor(tasks, i));
-    fit::product(sheet::period(tasks, i), sheet::divisor(cores, k)) < reach
+    let q = sheet::pivot(cores, k);
+    let d = sheet::divisor(cores, k);
+    fit::is_stretched(q, d, sheet::period(tasks, i), sheet::factor(tasks, i))
 }
 
 // Whether a rule is broken at a task or core.
@@ -110,7 +98,6 @@ fn is_broken(
         Test::Budget => bad_budget(tasks, i),
         Test::Stroke => bad_stroke(stroked, tasks, i),
         Test::Core => bad_core(on, c, i),
-        Test::Bare => is_bare(on, n, i),
         Test::Factor => bad_factor(tasks, i),
         Test::Pivot => bad_pivot(cores, i),
         Test::Stretch => is_stretched(stroked, tasks, cores, on, n, c, i),
@@ -136,6 +123,34 @@ fn first(
             return Found::At(i);
         }
         i += 1;
+    }
+    Found::Nothing
+}
+
+// Which cores have a task, by their numbers.
+fn used_cores(on: &[u8], n: u8) -> [bool; 256]
+    ensures { λ r. ⌜ Used n (at (now (on .entry))) r ⌝ }
+{
+    let mut used = [false; 256];
+    let mut i = 0;
+    while i < n {
+        used[sheet::byte(on, i as usize) as usize] = true;
+        i += 1;
+    }
+    used
+}
+
+// The first of c cores that has none.
+fn first_bare(on: &[u8], n: u8, c: u8) -> Found
+    ensures { λ r. ⌜ foundOf r ≡ find (bare n (at (now (on .entry)))) (numbers 0 c) ⌝ }
+{
+    let used = used_cores(on, n);
+    let mut k = 0;
+    while k < c {
+        if !used[k as usize] {
+            return Found::At(k);
+        }
+        k += 1;
     }
     Found::Nothing
 }
@@ -178,7 +193,7 @@ fn task_rules(
 fn core_rules(stroked: bool, tasks: &[u8], cores: &[u8], on: &[u8], n: u8, c: u8) -> Finding
     ensures { λ r. ⌜ findingOf r ≡ scan (coreRows (figuresWith (at (now (on .entry))) (strokeOfPosition stroked (now (tasks .entry))) n c (now (tasks .entry)) (now (cores .entry)))) ⌝ }
 {
-    let bare = first(Test::Bare, stroked, tasks, cores, on, n, c, c);
+    let bare = first_bare(on, n, c);
     if let Found::At(k) = bare {
         return Finding::Broken(Refusal::Bare, 64 + (k as u16));
     }
@@ -197,18 +212,29 @@ fn core_rules(stroked: bool, tasks: &[u8], cores: &[u8], on: &[u8], n: u8, c: u8
     Finding::Clear
 }
 
-// Whether rules 7, 8, 25, 9, 11 and 12 are all kept at task i.
+// Whether rules 7, 8, 25, 9, 11 and 12 are all kept at task i. Parts of known length are read without a test for each byte.
 fn is_sound(stroked: bool, tasks: &[u8], cores: &[u8], on: &[u8], n: u8, c: u8, i: u8) -> bool
+    requires { ⌜ (10 * i + 10 ≤ length (now tasks)) × (8 * c ≤ length (now cores)) ⌝ }
     ensures { λ r. ⌜ r ≡ soundAt (figuresWith (at (now (on .entry))) (strokeOfPosition stroked (now (tasks .entry))) n c (now (tasks .entry)) (now (cores .entry))) i ⌝ }
 {
-    let job = bad_budget(tasks, i) | bad_stroke(stroked, tasks, i);
-    let ranges = bad_period(tasks, i) | job;
-    let figures = bad_core(on, c, i) | bad_factor(tasks, i);
-    !((ranges | figures) | is_stretched(stroked, tasks, cores, on, n, c, i))
+    let k = sheet::byte(on, i as usize);
+    if c <= k {
+        return false;
+    }
+    let at = 10 * (i as usize);
+    let from = 8 * (k as usize);
+    let record = &tasks[at..at + 10];
+    let core = &cores[from..from + 8];
+    let job = bad_budget(record, 0) | bad_stroke(stroked, record, 0);
+    let ranges = (bad_period(record, 0) | job) | bad_factor(record, 0);
+    let q = sheet::pivot(core, 0);
+    let d = sheet::divisor(core, 0);
+    !(ranges | fit::is_stretched(q, d, sheet::period(record, 0), sheet::factor(record, 0)))
 }
 
 // Whether they are kept at every task.
 fn all_sound(stroked: bool, tasks: &[u8], cores: &[u8], on: &[u8], n: u8, c: u8) -> bool
+    requires { ⌜ (10 * n ≤ length (now tasks)) × (8 * c ≤ length (now cores)) ⌝ }
     ensures { λ r. ⌜ (r ≡ true → (i : ℕ) → i < n → soundAt (figuresWith (at (now (on .entry))) (strokeOfPosition stroked (now (tasks .entry))) n c (now (tasks .entry)) (now (cores .entry))) i ≡ true) ⌝ }
 {
     let mut i = 0;
@@ -226,7 +252,7 @@ fn bare_rules(stroked: bool, tasks: &[u8], cores: &[u8], on: &[u8], n: u8, c: u8
     requires { ⌜ ((i : ℕ) → i < n → soundAt (figuresWith (at (now on)) (strokeOfPosition stroked (now tasks)) n c (now tasks) (now cores)) i ≡ true) ⌝ }
     ensures { λ r. ⌜ findingOf r ≡ scan (coreRows (figuresWith (at (now (on .entry))) (strokeOfPosition stroked (now (tasks .entry))) n c (now (tasks .entry)) (now (cores .entry)))) ⌝ }
 {
-    let bare = first(Test::Bare, stroked, tasks, cores, on, n, c, c);
+    let bare = first_bare(on, n, c);
     if let Found::At(k) = bare {
         return Finding::Broken(Refusal::Bare, 64 + (k as u16));
     }
@@ -247,6 +273,7 @@ pub(crate) fn early_rules(
     c: u8,
     misordered: bool,
 ) -> Finding
+    requires { ⌜ (10 * n ≤ length (now tasks)) × (8 * c ≤ length (now cores)) ⌝ }
     ensures { λ r. ⌜ findingOf r ≡ scan (earlyRows misordered (figuresWith (at (now (on .entry))) (strokeOfPosition stroked (now (tasks .entry))) n c (now (tasks .entry)) (now (cores .entry)))) ⌝ }
 {
     if all_sound(stroked, tasks, cores, on, n, c) {

@@ -5,7 +5,7 @@ mod frame;
 
 ghost use mathlib.Core.Path.{_≡_};
 ghost use mathlib.Core.Bool.{_&&_};
-ghost use Prim.Native.Nat.{_*_, _≤_};
+ghost use Prim.Native.Nat.{_+_, _*_, _≤_};
 ghost use lib.ListN.{length};
 ghost use Rattle.sheet.specs.Table.{scan, findingOf};
 ghost use Rattle.sheet.specs.Records.{periodAt, numberAt, countAt};
@@ -34,7 +34,7 @@ fn is_misordered(grouped: bool, tasks: &[u8], cores: &[u8], on: &[u8], n: u8, c:
 
 // Rules 7 to 14, 23 and 25. `records` is the sheet's part from byte 8.
 fn record_rules(grouped: bool, stroked: bool, records: &[u8], n: u8, c: u8) -> Finding
-    requires { ⌜ (n ≤ 64) × (10 * n ≤ length (now records)) ⌝ }
+    requires { ⌜ (n ≤ 64) × (10 * n + 8 * c ≤ length (now records)) ⌝ }
     ensures { λ r. ⌜ findingOf r ≡ scan (partRows grouped stroked n c (now (records .entry))) ⌝ }
 {
     let at = 10 * (n as usize);

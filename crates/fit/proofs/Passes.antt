@@ -1,24 +1,20 @@
--- One pass over a list of tasks, step by step as the code goes: the chain of factors, the load, and the load at each task.
+-- One pass over a list of tasks, step by step as the code goes: the chain of factors and the load; and bounds of loads.
 -- Assumes nothing.
-use Prim.Native.Nat.{ℕ, _+_, _-_, _*_, _/_, _%_, _≤_, _<_, zero-le, min}
+use Prim.Native.Nat.{ℕ, _+_, _-_, _*_, _/_, _%_, _≤_, _<_, zero-le}
 use mathlib.Core.Path.{_≡_, refl, sym, _∙_}
-use mathlib.Core.Bool.{Bool, true, false, not, _&&_, and-false, or-true}
+use mathlib.Core.Bool.{Bool, true, false, not, _&&_, and-false}
 use mathlib.Core.List.{List}
 use native.Mathlib.Nat.{zero-add, mul-zero, mul-assoc, div-zero, mul-le-mul, mul-le-mul-right, mul-div-le, div-le-self, le-trans}
 use native.Mathlib.Numerals.{add-one}
 use native.Mathlib.Omega.{arith}
-use borrow.Author.Tests.{le-leb, lt-leb, le-ltb, lt-ltb, not-true, not-false}
+use borrow.Author.Tests.{le-leb, lt-leb, not-true, not-false}
 use lib.ListN.{length, getD, drop, drop-of-length-le}
 use lib.Seq.{drop-cons}
 use lib.Dec.{leb, eqb}
 use Rattle.fit.specs.declared.Chain.the-variants.{Whole, Broken}
-use Rattle.sheet.specs.Records.{budgetAt, factorAt}
-use Rattle.sheet.specs.Views.{strokeOfPosition}
-use Rattle.fit.specs.Lists.{sum, Each}
-use Rattle.fit.specs.Fits.{Multiples, chainBreak, lastFactor, load, levelOverloaded}
+use Rattle.fit.specs.Lists.{sum}
+use Rattle.fit.specs.Fits.{chainBreak, lastFactor, load}
 use Rattle.fit.specs.Answers.{chainAnswer, chained, loadInRange}
-use Rattle.fit.proofs.Lists.{each-all}
-use Rattle.fit.proofs.Blocking.{overAlong, overFromFirst, over-exactly}
 
 -- the chain from place i on, where the factor before it is d
 pub record Linked (M : ℕ → ℕ) (l : List ℕ) (d i : ℕ) : Type 0 where
@@ -106,37 +102,3 @@ level-bound above d m e D h hm he hD =
     let x : e ≤ 65535 = omega arith in
     let y : D ≤ 4294967295 = omega arith in
     (omega (arith, a, b), mul-le-mul x y)
-
--- rule 14 from place i on, where the factors are a chain
-pub record Levelled (e q M : ℕ → ℕ) (Q D : ℕ) (l : List ℕ) (above d room i : ℕ) : Type 0 where
-  pub left : Multiples M 1 l → Each (λ j. 0 < M j) l → levelOverloaded e q M Q D l ≡ overAlong e q M Q D above d room (drop i l)
-  pub bound : above ≤ 65535 * d
-
--- at the first place there is room for every stroke: it is of one byte, and the divisor of four
-pub level-start : (tasks l : List ℕ) (stroked : Bool) (Q D : ℕ) → ((i : ℕ) → getD tasks i 0 < 256) → D < 4294967296 → Levelled (budgetAt tasks) (strokeOfPosition stroked tasks) (factorAt tasks) Q D l 0 1 1099511627776 0
-unfolding overFromFirst
-level-start tasks l stroked Q D bytes small = record { left = λ m f. sym (over-exactly _ _ _ Q D 255 l m f (each-all _ l (byte stroked)) (omega arith)); bound = zero-le }
-  where
-    byte : (b : Bool) (i : ℕ) → strokeOfPosition b tasks i ≤ 255
-    byte true i = omega (arith, bytes (10 * i + 5))
-    byte false i = omega arith
-
-module _ (e q M : ℕ → ℕ) (Q D : ℕ) (l : List ℕ) (above d room i : ℕ) (h : i < length l) (k : Levelled e q M Q D l above d room i) where
-  pub stroke-over : (x s : ℕ) → x ≡ q (getD l i 0) → s ≡ (x - 1) * D → room < s → Multiples M 1 l → Each (λ j. 0 < M j) l → true ≡ levelOverloaded e q M Q D l
-  unfolding overAlong
-  stroke-over x s ex es t c f = sym (k .left c f ∙ rw (drop-cons l i 0 h, ← ex, ← es, lt-ltb room s t))
-
-  module _ (m y level full : ℕ) (em : m ≡ M (getD l i 0)) (ey : y ≡ e (getD l i 0)) (en : level ≡ above * (m / d) + y * D) (ef : full ≡ Q * m) where
-    pub level-over : full < level → Multiples M 1 l → Each (λ j. 0 < M j) l → true ≡ levelOverloaded e q M Q D l
-    unfolding overAlong
-    level-over t c f = sym (k .left c f ∙ rw (drop-cons l i 0 h, ← em, ← ey, ← en, ← ef, lt-ltb full level t, or-true))
-
-    pub level-turn : (x s r : ℕ) → x ≡ q (getD l i 0) → s ≡ (x - 1) * D → s ≤ room → level ≤ full → r ≡ min room (full - level) → Q < 65536 → Levelled e q M Q D l level m r (i + 1)
-    unfolding overAlong
-    level-turn x s r ex es a b er small =
-        let f : full ≤ 65535 * m = rw ef (mul-le-mul-right m (omega arith)) in
-        record { left = λ c f. k .left c f ∙ rw (drop-cons l i 0 h, ← ex, ← es, ← em, ← ey, ← en, ← ef, ← er, le-ltb room s a, le-ltb full level b, add-one i); bound = le-trans b f }
-
-pub level-end : (e q M : ℕ → ℕ) (Q D : ℕ) (l : List ℕ) (above d room i : ℕ) → length l ≤ i → Levelled e q M Q D l above d room i → Multiples M 1 l → Each (λ j. 0 < M j) l → false ≡ levelOverloaded e q M Q D l
-unfolding overAlong
-level-end e q M Q D l above d room i h k c f = sym (k .left c f ∙ rw (drop-of-length-le l {i = i} h))

@@ -7,4 +7,3 @@ pub mod Firsts
 pub mod Periodic
 pub mod Cores
 pub mod Answers
-pub mod Steps

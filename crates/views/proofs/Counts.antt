@@ -2,10 +2,10 @@
 -- Assumes nothing.
 use Prim.Native.Nat.{ℕ, zero, suc, _+_, _≤_, _<_}
 use mathlib.Core.Path.{_≡_, refl}
-use mathlib.Core.Bool.{Bool, true, false}
+use mathlib.Core.Bool.{Bool, true, false, cond}
 use native.Mathlib.Nat.{le-refl, lt-of-lt-of-le}
 use native.Mathlib.Omega.{arith}
-use native.Mathlib.Decide.{ℕ-discrete}
+use native.Mathlib.Decide.{decLe, ℕ-discrete}
 use borrow.Author.Tests.{le-leb, lt-leb, leb-true, leb-false}
 use lib.Arith.{lt-of-le-ne}
 use lib.Dec.{leb}
@@ -32,6 +32,26 @@ module _ (count : ℕ → ℕ) where
   unfolding coreByCounts
   core-past zero j h = refl
   core-past (suc c) j h = rw (le-leb (firstOf count (suc c)) j h)
+
+  -- a later position has no lower core
+  core-most : (c j : ℕ) → coreByCounts count c j ≤ c
+  unfolding coreByCounts
+  core-most zero j = le-refl 0
+  core-most (suc c) j = by (leb (firstOf count (suc c)) j) (core-most c j)
+    where
+      by : (b : Bool) → coreByCounts count c j ≤ c → cond b (suc c) (coreByCounts count c j) ≤ suc c
+      by true h = le-refl _
+      by false h = omega arith
+
+  pub core-rises : (c i j : ℕ) → i ≤ j → coreByCounts count c i ≤ coreByCounts count c j
+  unfolding coreByCounts
+  core-rises zero i j h = le-refl 0
+  core-rises (suc c) i j h = by (decLe (firstOf count (suc c)) i) (decLe (firstOf count (suc c)) j) (core-rises c i j h)
+    where
+      by : Dec (firstOf count (suc c) ≤ i) → Dec (firstOf count (suc c) ≤ j) → coreByCounts count c i ≤ coreByCounts count c j → coreByCounts count (suc c) i ≤ coreByCounts count (suc c) j
+      by (yes a) b r = rw (le-leb (firstOf count (suc c)) i a, le-leb (firstOf count (suc c)) j (omega arith)) (le-refl _)
+      by (no a) (yes b) r = rw (lt-leb (firstOf count (suc c)) i (omega arith), le-leb (firstOf count (suc c)) j b) (omega (arith, core-most c i))
+      by (no a) (no b) r = rw (lt-leb (firstOf count (suc c)) i (omega arith), lt-leb (firstOf count (suc c)) j (omega arith)) r
 
   -- From where core k begins to where the next one does the core is k.
   pub core-inside : (c k j : ℕ) → firstOf count k ≤ j → j < firstOf count (suc k) → k < c → coreByCounts count c j ≡ k

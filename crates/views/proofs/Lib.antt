@@ -2,9 +2,7 @@ pub mod Counts
 pub mod Once
 pub mod Filling
 pub mod Numbering
-pub mod Selecting
 pub mod Passing
-pub mod Parts
 pub mod Ordering
 pub mod Grouped
 pub mod ByNumber

@@ -1,3 +1,4 @@
+use native.Mathlib.Omega.{arith}
 use borrow.Author.Needs.{needs}
 use Prim.Native.Nat.{_*_}
 use Rattle.fit.proofs.Lists.{part}
@@ -53,7 +54,8 @@ slice-aggregate-fit-rules c = search needs
 fit-rules-requires : tie.Need-fit-rules-requires
 fit-rules-requires c κs =
     let a = c .before .before .before .before .before .before .before .before .before .before .args in
-    part-ready (a .grouped) (a .stroked) (a .records .now) _ _ (a .n) (a .c) (part (a .records .now) (10 * a .n)) (c .before .before .before .before .before .before .before .before .before .before .pre .0) (c .before .before .before .before .before .before .before .cores-of .ensures) _ (c .before .before .before .before .before .is-misordered .ensures) _ (c .before .before .before .early-rules .ensures) (c .before .enum-told2 .given .1)
+    let ready = part-ready (a .grouped) (a .stroked) (a .records .now) _ _ (a .n) (a .c) (part (a .records .now) (10 * a .n)) (c .before .before .before .before .before .before .before .before .before .before .pre .0) (c .before .before .before .before .before .before .before .cores-of .ensures) _ (c .before .before .before .before .before .is-misordered .ensures) _ (c .before .before .before .early-rules .ensures) (c .before .enum-told2 .given .1) in
+    (omega (arith, c .before .before .before .before .before .before .before .before .before .before .pre .1), ready .0, ready .1)
 
 returns-2 : tie.Need-returns-2
 returns-2 c = search (part-fits, part)

@@ -1,24 +1,25 @@
-use borrow.Author.Needs.{needs}
 use Rattle.checker.specs.Rules.{coreRows}
 use Rattle.sheet.proofs.Scans.{scan-skip, scan-hit, scan-none, found-at, found-none, core-at, core-none}
 use Rattle.checker.proofs.Sound.{factors-clear, stretch-clear}
+use borrow.Author.Needs.{needs}
 use Rattle.checker.proofs.early.bare_rules.Statement.{statement}
 use Rattle.checker.proofs.early.bare_rules.Tie as tie
 use Rattle.checker.proofs.early.bare_rules.Reads as reads
 use Rattle.checker.proofs.early.bare_rules.Lts as lts
 use Rattle.checker.proofs.early.first.Reads as first-reads
+use Rattle.checker.proofs.early.first_bare.Reads as first-bare-reads
 
-first-requires : tie.Need-first-requires
-first-requires c κs = search needs
+first-bare-requires : tie.Need-first-bare-requires
+first-bare-requires c κs = search needs
 
 enum-known-bare : tie.Need-enum-known-bare
 enum-known-bare c = search needs
 
-cast-t13 : tie.Need-cast-t13
-cast-t13 c = search needs
+cast-t12 : tie.Need-cast-t12
+cast-t12 c = search needs
 
-add-t14 : tie.Need-add-t14
-add-t14 c = search needs
+add-t13 : tie.Need-add-t13
+add-t13 c = search needs
 
 returns : tie.Need-returns
 unfolding coreRows
@@ -27,8 +28,8 @@ returns c = search (scan-hit, found-at, core-at)
 enum-told : tie.Need-enum-told
 enum-told c = search needs
 
-first-requires-2 : tie.Need-first-requires-2
-first-requires-2 c κs = search needs
+first-requires : tie.Need-first-requires
+first-requires c κs = search needs
 
 enum-known-pivot : tie.Need-enum-known-pivot
 enum-known-pivot c = search needs
@@ -54,13 +55,13 @@ pub bare-rules-spec : {M : Type 1} → statement M
 bare-rules-spec =
     tie.close
     (tie.spec
-    first-requires
+    first-bare-requires
     enum-known-bare
-    cast-t13
-    add-t14
+    cast-t12
+    add-t13
     returns
     enum-told
-    first-requires-2
+    first-requires
     enum-known-pivot
     cast-t16
     add-t17

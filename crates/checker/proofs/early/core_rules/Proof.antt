@@ -1,23 +1,24 @@
-use borrow.Author.Needs.{needs}
 use Rattle.checker.specs.Rules.{coreRows}
 use Rattle.sheet.proofs.Scans.{scan-skip, scan-hit, scan-none, found-at, found-none, core-at, core-none}
+use borrow.Author.Needs.{needs}
 use Rattle.checker.proofs.early.core_rules.Statement.{statement}
 use Rattle.checker.proofs.early.core_rules.Tie as tie
 use Rattle.checker.proofs.early.core_rules.Reads as reads
 use Rattle.checker.proofs.early.core_rules.Lts as lts
 use Rattle.checker.proofs.early.first.Reads as first-reads
+use Rattle.checker.proofs.early.first_bare.Reads as first-bare-reads
 
-first-requires : tie.Need-first-requires
-first-requires c κs = search needs
+first-bare-requires : tie.Need-first-bare-requires
+first-bare-requires c κs = search needs
 
 enum-known-bare : tie.Need-enum-known-bare
 enum-known-bare c = search needs
 
-cast-t17 : tie.Need-cast-t17
-cast-t17 c = search needs
+cast-t16 : tie.Need-cast-t16
+cast-t16 c = search needs
 
-add-t18 : tie.Need-add-t18
-add-t18 c = search needs
+add-t17 : tie.Need-add-t17
+add-t17 c = search needs
 
 returns : tie.Need-returns
 unfolding coreRows
@@ -26,8 +27,8 @@ returns c = search (scan-skip, scan-hit, scan-none, found-at, found-none, core-a
 enum-told : tie.Need-enum-told
 enum-told c = search needs
 
-first-requires-2 : tie.Need-first-requires-2
-first-requires-2 c κs = search needs
+first-requires : tie.Need-first-requires
+first-requires c κs = search needs
 
 enum-known-factor : tie.Need-enum-known-factor
 enum-known-factor c = search needs
@@ -42,8 +43,8 @@ returns-2 c = search (scan-skip, scan-hit, scan-none, found-at, found-none, core
 enum-told-2 : tie.Need-enum-told-2
 enum-told-2 c = search needs
 
-first-requires-3 : tie.Need-first-requires-3
-first-requires-3 c κs = search needs
+first-requires-2 : tie.Need-first-requires-2
+first-requires-2 c κs = search needs
 
 enum-known-pivot : tie.Need-enum-known-pivot
 enum-known-pivot c = search needs
@@ -61,8 +62,8 @@ returns-3 c = search (scan-skip, scan-hit, scan-none, found-at, found-none, core
 enum-told-3 : tie.Need-enum-told-3
 enum-told-3 c = search needs
 
-first-requires-4 : tie.Need-first-requires-4
-first-requires-4 c κs = search needs
+first-requires-3 : tie.Need-first-requires-3
+first-requires-3 c κs = search needs
 
 enum-known-stretch : tie.Need-enum-known-stretch
 enum-known-stretch c = search needs
@@ -85,24 +86,24 @@ pub core-rules-spec : {M : Type 1} → statement M
 core-rules-spec =
     tie.close
     (tie.spec
-    first-requires
+    first-bare-requires
     enum-known-bare
-    cast-t17
-    add-t18
+    cast-t16
+    add-t17
     returns
     enum-told
-    first-requires-2
+    first-requires
     enum-known-factor
     cast-t20
     returns-2
     enum-told-2
-    first-requires-3
+    first-requires-2
     enum-known-pivot
     cast-t22
     add-t23
     returns-3
     enum-told-3
-    first-requires-4
+    first-requires-3
     enum-known-stretch
     cast-t25
     returns-4

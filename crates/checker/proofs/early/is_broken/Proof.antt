@@ -1,6 +1,6 @@
 use borrow.Author.Needs.{needs}
 use Rattle.checker.proofs.Answers.{test-broken}
-use Rattle.checker.specs.declared.early.Test.the-variants.{Period, Budget, Stroke, Core, Bare, Factor, Pivot, Stretch}
+use Rattle.checker.specs.declared.early.Test.the-variants.{Period, Budget, Stroke, Core, Factor, Pivot, Stretch}
 use Rattle.checker.proofs.early.is_broken.Statement.{statement}
 use Rattle.checker.proofs.early.is_broken.Tie as tie
 use Rattle.checker.proofs.early.is_broken.Reads as reads
@@ -11,7 +11,6 @@ use Rattle.checker.proofs.early.bad_factor.Reads as bad-factor-reads
 use Rattle.checker.proofs.early.bad_period.Reads as bad-period-reads
 use Rattle.checker.proofs.early.bad_pivot.Reads as bad-pivot-reads
 use Rattle.checker.proofs.early.bad_stroke.Reads as bad-stroke-reads
-use Rattle.checker.proofs.early.is_bare.Reads as is-bare-reads
 use Rattle.checker.proofs.early.is_stretched.Reads as is-stretched-reads
 
 enum-told : tie.Need-enum-told
@@ -41,23 +40,17 @@ bad-core-requires c κs = search needs
 enum-told-5 : tie.Need-enum-told-5
 enum-told-5 c = search needs
 
-is-bare-requires : tie.Need-is-bare-requires
-is-bare-requires c κs = search needs
+bad-factor-requires : tie.Need-bad-factor-requires
+bad-factor-requires c κs = search needs
 
 enum-told-6 : tie.Need-enum-told-6
 enum-told-6 c = search needs
 
-bad-factor-requires : tie.Need-bad-factor-requires
-bad-factor-requires c κs = search needs
-
-enum-told-7 : tie.Need-enum-told-7
-enum-told-7 c = search needs
-
 bad-pivot-requires : tie.Need-bad-pivot-requires
 bad-pivot-requires c κs = search needs
 
-enum-told-8 : tie.Need-enum-told-8
-enum-told-8 c = search needs
+enum-told-7 : tie.Need-enum-told-7
+enum-told-7 c = search needs
 
 is-stretched-requires : tie.Need-is-stretched-requires
 is-stretched-requires c κs = search needs
@@ -75,16 +68,13 @@ returns-4 : tie.Need-returns-4
 returns-4 c = test-broken _ Core _ _ _ (c .bad-core .ensures) (c .before .enum-told4 .given .1)
 
 returns-5 : tie.Need-returns-5
-returns-5 c = test-broken _ Bare _ _ _ (c .is-bare .ensures) (c .before .enum-told5 .given .1)
+returns-5 c = test-broken _ Factor _ _ _ (c .bad-factor .ensures) (c .before .enum-told5 .given .1)
 
 returns-6 : tie.Need-returns-6
-returns-6 c = test-broken _ Factor _ _ _ (c .bad-factor .ensures) (c .before .enum-told6 .given .1)
+returns-6 c = test-broken _ Pivot _ _ _ (c .bad-pivot .ensures) (c .before .enum-told6 .given .1)
 
 returns-7 : tie.Need-returns-7
-returns-7 c = test-broken _ Pivot _ _ _ (c .bad-pivot .ensures) (c .before .enum-told7 .given .1)
-
-returns-8 : tie.Need-returns-8
-returns-8 c = test-broken _ Stretch _ _ _ (c .is-stretched .ensures) (c .before .enum-told8 .given .1)
+returns-7 c = test-broken _ Stretch _ _ _ (c .is-stretched .ensures) (c .before .enum-told7 .given .1)
 
 pub is-broken-spec : {M : Type 1} → statement M
 is-broken-spec =
@@ -99,12 +89,10 @@ is-broken-spec =
     enum-told-4
     bad-core-requires
     enum-told-5
-    is-bare-requires
-    enum-told-6
     bad-factor-requires
-    enum-told-7
+    enum-told-6
     bad-pivot-requires
-    enum-told-8
+    enum-told-7
     is-stretched-requires
     returns
     returns-2
@@ -112,5 +100,4 @@ is-broken-spec =
     returns-4
     returns-5
     returns-6
-    returns-7
-    returns-8)
+    returns-7)
