@@ -352,7 +352,7 @@ fn period_at(periods: &[u16], task: u8) -> u16 {
 // Card M: three periods in ring order.
 fn card_m() {
     let periods = [7u16, 16, 21];
-    let ring = fit::sorted(By::Ring, &periods, 3);
+    let ring = order::sorted(By::Ring, &periods, 3);
     let tasks = ring.tasks;
     print(b"M");
     print_number(period_at(&periods, tasks[0]) as u64);

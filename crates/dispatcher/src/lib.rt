@@ -103,7 +103,7 @@ fn of_core(grouped: bool, stroked: bool, records: &[u8], n: u8, c: u8, k: u8) ->
         stroked,
         records,
         10,
-        fit::on_core(&periods, &on, n, k),
+        order::on_core(&periods, &on, n, k),
     )
 }
 

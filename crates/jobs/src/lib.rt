@@ -21,7 +21,7 @@ pub fn in_order(by: By, jobs: &[u8], n: u8) -> Order
     ensures { λ r. ⌜ Ordered (orderBy by (jobPeriod (now (jobs .entry))) (min n 64)) r ⌝ }
 {
     let periods = fit::periods_of(jobs, 4, n);
-    fit::sorted(by, &periods, n)
+    order::sorted(by, &periods, n)
 }
 
 // The fields of an entry that are tested.

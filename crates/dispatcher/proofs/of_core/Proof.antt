@@ -6,8 +6,8 @@ use Rattle.dispatcher.proofs.of_core.Tie as tie
 use Rattle.dispatcher.proofs.of_core.Reads as reads
 use Rattle.dispatcher.proofs.of_core.Lts as lts
 use Rattle.dispatcher.proofs.fresh_state.Reads as fresh-state-reads
-use Rattle.fit.proofs.on_core.Reads as on-core-reads
 use Rattle.fit.proofs.periods_of.Reads as periods-of-reads
+use Rattle.order.proofs.on_core.Reads as on-core-reads
 use Rattle.views.proofs.cores_of.Reads as cores-of-reads
 
 mul-at : tie.Need-mul-at

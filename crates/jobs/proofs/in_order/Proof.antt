@@ -5,7 +5,7 @@ use Rattle.jobs.proofs.in_order.Tie as tie
 use Rattle.jobs.proofs.in_order.Reads as reads
 use Rattle.jobs.proofs.in_order.Lts as lts
 use Rattle.fit.proofs.periods_of.Reads as periods-of-reads
-use Rattle.fit.proofs.sorted.Reads as sorted-reads
+use Rattle.order.proofs.sorted.Reads as sorted-reads
 
 periods-of-requires : tie.Need-periods-of-requires
 periods-of-requires c κs = search needs
