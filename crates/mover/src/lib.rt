@@ -129,24 +129,23 @@ fn look_up(list: &[u8], places: &[u8], n: u8) -> [u8; 64]
     column
 }
 
-// Tasks 0 to n - 1 with these periods and cores, core by core and in priority order on each; of more than 64 the first 64.
+// Tasks 0 to n - 1 with these periods on the cores below c, core by core and in priority order on each; of more than 64 the first 64.
 fn core_by_core(periods: &[u16], on: &[u8], n: u8, c: u8) -> Arrangement
     requires { ⌜ c ≤ 8 ⌝ }
     ensures { λ r. ⌜ Arranged (groupedBy (at (now (periods .entry))) (at (now (on .entry))) (min n 64) c) n c r ⌝ }
 {
+    let list = order::by_core(periods, on, n);
     let mut from = [0u8; 64];
     let mut counts = [0u8; 8];
     let mut at = 0;
     let mut k = 0;
     while k < c {
-        let order = fit::on_core(periods, on, n, k);
-        let count = order.count;
-        let tasks = order.tasks;
-        copy(&mut from[at..], &tasks, 0, count);
-        counts[k as usize] = count as u8;
-        at += count;
+        let end = order::end_on(&list, on, n, at, k);
+        counts[k as usize] = (end - at) as u8;
+        at = end;
         k += 1;
     }
+    copy(&mut from, &list, 0, at);
     Arrangement {
         version: 2,
         from,
