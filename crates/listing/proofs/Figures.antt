@@ -1,27 +1,28 @@
 -- The figures of an accepted sheet as the listing shows them: within and load fit, and the code finds the load that the definition says.
 -- Assumes nothing.
-use Prim.Native.Nat.{ℕ, _*_, _/_, _≤_, _<_, min}
+use Prim.Native.Nat.{ℕ, _+_, _-_, _*_, _/_, _≤_, _<_, min}
 use mathlib.Core.Path.{_≡_, ap, _∙_}
 use mathlib.Core.List.{List}
 use native.Mathlib.Omega.{arith}
 use native.Mathlib.Nat.{le-trans, mul-le-mul, mul-pos, div-le-of-le-mul}
 use borrow.Author.Tests.{le-leb}
-use lib.ListN.{length, take}
-use mir.Syntax.{w32}
+use lib.ListN.{length, take, drop}
+use mir.Syntax.{w8, w32}
 use mir.Val.{Fits}
 use Rattle.sheet.specs.Records.{Figures}
-use Rattle.fit.specs.declared.Order.{Order}
 use Rattle.fit.specs.declared.Chain.{Chain}
 use Rattle.fit.specs.declared.Chain.the-variants.{Whole, Broken}
 use Rattle.fit.specs.Lists.{Each, at}
 use Rattle.fit.specs.Priority.{order}
 use Rattle.fit.specs.Fits.{lastFactor, load, within}
-use Rattle.fit.specs.Answers.{Column, Ordered, chainAnswer, chained, loadInRange}
-use Rattle.fit.proofs.Lists.{each-of}
+use Rattle.fit.specs.Answers.{Column, chainAnswer, chained, loadInRange}
+use Rattle.fit.proofs.Lists.{each-of, padded-length}
 use Rattle.fit.proofs.Priority.{order-members, order-count, order-ext}
 use Rattle.fit.proofs.Levels.{multiples-chain, load-last, last-positive, within-period}
 use Rattle.fit.proofs.Blocking.{levels-full}
 use Rattle.fit.specs.Cores.{orderOn}
+use Rattle.order.specs.Cores.{onCores, ByCore, endOn}
+use Rattle.order.proofs.Cutting.{cut-start, cut-end, cut-part, cut-rises, cut-inside}
 use Rattle.checker.specs.Accepted.{Fitting, LoadAtMostOne}
 use Rattle.listing.specs.Listing.{thousandths, loadOf}
 
@@ -59,17 +60,40 @@ module _ (f : Figures) (k : ℕ) (g : Fitting f) where
   pub last-above : 0 < lastFactor (f .factor) 1 (orderOn f k)
   last-above = last-positive (f .factor) 1 _ (omega arith) factors-above
 
--- the order of a core, by a column of the periods
-module _ (f : Figures) (k : ℕ) (periods : List ℕ) (o : Order) (chain : Chain) (p : Column (f .period) (min (f .tasks) 64) periods) (g : Fitting f) (n : f .tasks ≤ 64) (h : k < f .cores) (s : Ordered (order (at periods) (f .core) k (min (f .tasks) 64)) o) (e : chain ≡ chained (f .factor) (take (o .count) (o .tasks))) where
-  listed : take (o .count) (o .tasks) ≡ orderOn f k
-  unfolding orderOn
-  listed =
-      let m : min (f .tasks) 64 ≡ f .tasks = omega arith in
-      s .tasks ∙ order-ext (at periods) (f .period) (f .core) k _ (p .below) ∙ ap (order (f .period) (f .core) k) m
+-- the part of core k begins at place a of the list of all cores, which is made by a column of the periods
+pub record Begins (f : Figures) (periods list : List ℕ) (k a : ℕ) : Type 0 where
+  pub size : length list ≡ 64
+  pub all : ByCore (at periods) (f .core) (min (f .tasks) 64) list
+  pub start : a ≡ length (onCores (at periods) (f .core) k (min (f .tasks) 64))
 
+pub begins-first : (f : Figures) (periods list : List ℕ) → ByCore (at periods) (f .core) (min (f .tasks) 64) list → Begins f periods list 0 0
+begins-first f periods list b = record { size = rw (b .same) (padded-length _ (omega (arith, b .whole))); all = b; start = cut-start (at periods) (f .core) (min (f .tasks) 64) }
+
+module _ (f : Figures) (periods list : List ℕ) (k a end : ℕ) (b : Begins f periods list k a) (e : end ≡ endOn (f .core) k list a (min (f .tasks) 64)) (q : k < f .cores) (m : Fits w8 (f .cores)) where
+  h : k < 256
+  h = omega (arith, m .fits)
+
+  pub part-rises : a ≤ end
+  part-rises = rw e (cut-rises (at periods) (f .core) (min (f .tasks) 64) k a list (omega arith) h (b .all) (b .start))
+
+  pub part-inside : end ≤ length list
+  part-inside = rw (b .size, e) (le-trans (cut-inside (at periods) (f .core) (min (f .tasks) 64) k a list (omega arith) h (b .all) (b .start)) (omega arith))
+
+  pub begins-next : Begins f periods list (k + 1) end
+  begins-next = record { size = b .size; all = b .all; start = e ∙ cut-end (at periods) (f .core) (min (f .tasks) 64) k a list (omega arith) h (b .all) (b .start) }
+
+  pub part-order : f .tasks ≤ 64 → Column (f .period) (min (f .tasks) 64) periods → take (end - a) (drop a list) ≡ orderOn f k
+  unfolding orderOn
+  part-order few p =
+      let all : min (f .tasks) 64 ≡ f .tasks = omega arith in
+      ap (λ x. take (x - a) (drop a list)) e ∙ cut-part (at periods) (f .core) (min (f .tasks) 64) k a list (omega arith) h (b .all) (b .start)
+      ∙ order-ext (at periods) (f .period) (f .core) k _ (p .below) ∙ ap (order (f .period) (f .core) k) all
+
+-- the order of a core
+module _ (f : Figures) (k : ℕ) (list : List ℕ) (chain : Chain) (g : Fitting f) (n : f .tasks ≤ 64) (h : k < f .cores) (s : list ≡ orderOn f k) (e : chain ≡ chained (f .factor) list) where
   whole : chain ≡ Whole (lastFactor (f .factor) 1 (orderOn f k))
   unfolding chained chainAnswer
-  whole = e ∙ rw (listed, multiples-chain (f .factor) 1 (orderOn f k) (g .fits .simply-periodic k h))
+  whole = e ∙ rw (s, multiples-chain (f .factor) 1 (orderOn f k) (g .fits .simply-periodic k h))
 
   short : length (orderOn f k) ≤ 64
   unfolding orderOn
@@ -83,11 +107,11 @@ module _ (f : Figures) (k : ℕ) (periods : List ℕ) (o : Order) (chain : Chain
     is-last : last ≡ lastFactor (f .factor) 1 (orderOn f k)
     is-last = cc whole
 
-    module _ (d r : ℕ) (ed : d ≡ f .divisor k) (t : r ≡ loadInRange (f .budget) (f .factor) d last (take (o .count) (o .tasks))) where
+    module _ (d r : ℕ) (ed : d ≡ f .divisor k) (t : r ≡ loadInRange (f .budget) (f .factor) d last list) where
       found : r ≡ load (f .budget) (f .factor) (f .divisor k) (lastFactor (f .factor) 1 (orderOn f k)) (orderOn f k)
       unfolding loadInRange
       found =
-          t ∙ rw (ed, listed, is-last, le-leb (f .divisor k) 120000 (g .cores .divisor k h .1), le-leb _ 120000 (last-small f k g), le-leb _ 64 short)
+          t ∙ rw (ed, s, is-last, le-leb (f .divisor k) 120000 (g .cores .divisor k h .1), le-leb _ 120000 (last-small f k g), le-leb _ 64 short)
 
       -- the load is at most full, and full is in range
       module _ (q full : ℕ) (eq : q ≡ f .pivot k) (ef : full ≡ q * last) where

@@ -10,6 +10,7 @@ ghost use Rattle.sheet.specs.Views.{renumbered, figures};
 ghost use Rattle.fit.specs.Lists.{numbers, at as column, joined};
 ghost use Rattle.fit.specs.Answers.{Column};
 ghost use Rattle.fit.specs.Fits.{within};
+ghost use Rattle.fit.specs.Cores.{orderOn};
 ghost use Rattle.checker.specs.Accepted.{Fitting};
 ghost use Rattle.checker.specs.Verdict.{verdict, accepted};
 ghost use Rattle.listing.specs.Decimal.{decimal};
@@ -165,19 +166,16 @@ fn in_thousandths(load: u64, full: u64) -> u32
     ((1000 * load + full - 1) / full) as u32
 }
 
-// The load of core k in thousandths.
-fn load_of(periods: &[u16], tasks: &[u8], cores: &[u8], on: &[u8], n: u8, c: u8, k: u8) -> u32
-    requires { ⌜ Column (periodAt (now tasks)) (min n 64) (now periods) × Fitting (figuresWith (column (now on)) oneTick n c (now tasks) (now cores)) × (n ≤ 64) × (k < c) ⌝ }
+// The load of core k in thousandths. `list` is its order.
+fn load_of(tasks: &[u8], cores: &[u8], on: &[u8], list: &[u8], n: u8, c: u8, k: u8) -> u32
+    requires { ⌜ Fitting (figuresWith (column (now on)) oneTick n c (now tasks) (now cores)) × (now list ≡ orderOn (figuresWith (column (now on)) oneTick n c (now tasks) (now cores)) k) × (n ≤ 64) × (k < c) ⌝ }
     ensures { λ r. ⌜ r ≡ loadOf (figuresWith (column (now (on .entry))) oneTick n c (now (tasks .entry)) (now (cores .entry))) k ⌝ }
 {
-    let order = fit::on_core(periods, on, n, k);
-    let count = order.count;
-    let list = order.tasks;
-    let chain = fit::chain_of(tasks, &list[..count]);
+    let chain = fit::chain_of(tasks, list);
     match chain {
         Chain::Broken(_) => 0,
         Chain::Whole(last) => {
-            let load = fit::load_of(tasks, &list[..count], sheet::divisor(cores, k), last);
+            let load = fit::load_of(tasks, list, sheet::divisor(cores, k), last);
             in_thousandths(load, fit::product(sheet::pivot(cores, k), last))
         }
     }
@@ -186,18 +184,18 @@ fn load_of(periods: &[u16], tasks: &[u8], cores: &[u8], on: &[u8], n: u8, c: u8,
 fn put_core(
     out: &mut [u8],
     at: usize,
-    periods: &[u16],
     tasks: &[u8],
     cores: &[u8],
     on: &[u8],
+    list: &[u8],
     n: u8,
     c: u8,
     k: u8,
 ) -> usize
-    requires { ⌜ Column (periodAt (now tasks)) (min n 64) (now periods) × Fitting (figuresWith (column (now on)) oneTick n c (now tasks) (now cores)) × (n ≤ 64) × (k < c) × (at + 76 ≤ length (now out)) ⌝ }
+    requires { ⌜ Fitting (figuresWith (column (now on)) oneTick n c (now tasks) (now cores)) × (now list ≡ orderOn (figuresWith (column (now on)) oneTick n c (now tasks) (now cores)) k) × (n ≤ 64) × (k < c) × (at + 76 ≤ length (now out)) ⌝ }
     ensures { λ r. ⌜ Capped 76 (now (out .entry)) at (coreLine (figuresWith (column (now (on .entry))) oneTick n c (now (tasks .entry)) (now (cores .entry))) k) (now (out .exit)) r ⌝ }
 {
-    let load = load_of(periods, tasks, cores, on, n, c, k);
+    let load = load_of(tasks, cores, on, list, n, c, k);
     let next = put_field(out, at, b"core ", k as u32, b' ');
     let next = put_field(out, next, b"pivot ", sheet::pivot(cores, k) as u32, b' ');
     let next = put_field(out, next, b"divisor ", sheet::divisor(cores, k), b' ');
@@ -217,11 +215,15 @@ fn put_cores(
     requires { ⌜ Column (periodAt (now tasks)) (min n 64) (now periods) × Fitting (figuresWith (column (now on)) oneTick n c (now tasks) (now cores)) × (n ≤ 64) × (at + 76 * c ≤ length (now out)) ⌝ }
     ensures { λ r. ⌜ Capped (76 * c) (now (out .entry)) at (joined (coreLine (figuresWith (column (now (on .entry))) oneTick n c (now (tasks .entry)) (now (cores .entry)))) (numbers 0 c)) (now (out .exit)) r ⌝ }
 {
+    let list = order::by_core(periods, on, n);
     let mut next = at;
+    let mut from = 0;
     let mut k = 0;
     while k < c {
-        let after = put_core(out, next, periods, tasks, cores, on, n, c, k);
+        let end = order::end_on(&list, on, n, from, k);
+        let after = put_core(out, next, tasks, cores, on, &list[from..end], n, c, k);
         next = after;
+        from = end;
         k += 1;
     }
     next
