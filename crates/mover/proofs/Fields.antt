@@ -39,7 +39,7 @@ bytes-take s a (suc n) h =
     drop-cons zero (x ∷ s) h = refl
     drop-cons (suc a) (x ∷ s) h = drop-cons a s (omega arith)
 
-bytes-length : (s : List ℕ) (a n : ℕ) → length (bytes s a n) ≡ n
+pub bytes-length : (s : List ℕ) (a n : ℕ) → length (bytes s a n) ≡ n
 unfolding bytes
 bytes-length s a zero = refl
 bytes-length s a (suc n) = rw (bytes-length s (suc a) n)

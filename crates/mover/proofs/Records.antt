@@ -2,16 +2,18 @@
 -- Assumes nothing.
 use Prim.Native.Nat.{ℕ, zero, suc, _+_, _-_, _*_, _≤_, _<_}
 use mathlib.Core.Path.{_≡_, refl, ap, _∙_}
-use mathlib.Core.List.{List, [], _∷_}
+use mathlib.Core.List.{List, [], _∷_, _++_}
 use native.Mathlib.Nat.{add-zero}
 use native.Mathlib.Numerals.{add-one}
 use native.Mathlib.Omega.{arith}
-use lib.ListN.{length, take, drop, getD, set, length-set}
+use lib.ListN.{length, take, drop, getD, set, length-append, length-set}
+use lib.Seq.{take-at}
 use borrow.Rule.Slice.PartMut.{putMid}
 use Rattle.fit.specs.Lists.{over}
 use Rattle.fit.proofs.Laying.{Laid, lay-turn}
 use Rattle.mover.specs.Moved.{bytes, headerWith, taskWith, coreWith}
 use Rattle.mover.specs.Steps.{taskBytes, coreBytes}
+use Rattle.mover.proofs.Fields.{bytes-take, bytes-length}
 
 -- the first i bytes are copied
 pub record Copied (from : List ℕ) (a : ℕ) (before : List ℕ) (i : ℕ) (now : List ℕ) : Type 0 where
@@ -41,6 +43,15 @@ pub copy-end : (from : List ℕ) (a : ℕ) (l : List ℕ) (n i : ℕ) (now : Lis
 copy-end from a l n i now p q d =
     let same : i ≡ n = omega arith in
     rw (← same) (d .bytes)
+
+-- bytes that are copied over the front of a list, and from there
+pub copy-through : (from : List ℕ) (a : ℕ) (z mid l : List ℕ) (n : ℕ) (now : List ℕ) → mid ≡ over (bytes from a n) z → now ≡ over (bytes mid 0 n) l → now ≡ over (bytes from a n) l
+unfolding over
+copy-through from a z mid l n now p e =
+    let b : List ℕ = bytes from a n in
+    let size : length b ≡ n = bytes-length from a n in
+    let same : bytes mid 0 n ≡ b = ap (λ (s : List ℕ). bytes s 0 n) p ∙ bytes-take (b ++ drop (length b) z) 0 n (simp length-append (omega (arith, size))) ∙ take-at b (drop (length b) z) n size in
+    e ∙ ap (λ (t : List ℕ). t ++ drop (length t) l) same
 
 -- the records
 pub header-bytes : (s l : List ℕ) (v : ℕ) (now : List ℕ) → now ≡ over (bytes s 0 8) l → set (set now 3 v) 4 0 ≡ over (headerWith s v) l

@@ -2,7 +2,7 @@
 // `tasks` is the sheet's part from byte 8, `cores` its part after the last task.
 ghost use mathlib.Core.Path.{_≡_};
 ghost use mathlib.Core.Bool.{true, false};
-ghost use Prim.Native.Nat.{_*_, _≤_, min};
+ghost use Prim.Native.Nat.{_+_, _*_, _≤_, min};
 ghost use lib.ListN.{length};
 ghost use Rattle.sheet.specs.Views.{isGrouped};
 ghost use Rattle.fit.specs.Lists.{numbers, joined, over, at};
@@ -30,11 +30,30 @@ struct Arrangement {
 
 // Each writer puts its bytes at the front of the part that it is lent.
 
-// The n bytes of a slice from offset a on; past its end there are zeros.
+// The n bytes of a slice from offset a on, which it has.
+fn copy_inside(part: &mut [u8], from: &[u8], a: usize, n: usize)
+    requires { ⌜ (n ≤ length (now part)) × (a + n ≤ length (now from)) ⌝ }
+    ensures { λ _. ⌜ now (part .exit) ≡ over (bytes (now (from .entry)) a n) (now (part .entry)) ⌝ }
+{
+    let mut i = 0;
+    while i < n {
+        part[i] = from[a + i];
+        i += 1;
+    }
+}
+
+// The n bytes of a slice from offset a on; past its end there are zeros. At most 64 that it has are all read before the first is written:
+// then they go by words.
 fn copy(part: &mut [u8], from: &[u8], a: usize, n: usize)
     requires { ⌜ (n ≤ length (now part)) × (a ≤ 65536) ⌝ }
     ensures { λ _. ⌜ now (part .exit) ≡ over (bytes (now (from .entry)) a n) (now (part .entry)) ⌝ }
 {
+    if n <= 64 && a + n <= from.len() {
+        let mut bytes = [0u8; 64];
+        copy_inside(&mut bytes, from, a, n);
+        copy_inside(part, &bytes, 0, n);
+        return;
+    }
     let mut i = 0;
     while i < n {
         part[i] = sheet::byte(from, a + i);
