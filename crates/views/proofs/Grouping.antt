@@ -1,6 +1,6 @@
 -- The tasks core by core, those of each core in priority order: where each stands, and that this is version 2's order.
 -- Assumes nothing.
-use Prim.Native.Nat.{ℕ, zero, suc, _+_, _-_, _≤_, _<_}
+use Prim.Native.Nat.{ℕ, zero, suc, _+_, _-_, _<_}
 use mathlib.Core.Path.{_≡_, refl, sym, ap, subst₂, fun-ext, _∙_}
 use mathlib.Core.Bool.{Bool, true, false, cond}
 use mathlib.Core.List.{List, [], _∷_, _++_, map}
@@ -14,7 +14,7 @@ use lib.Dec.{ltb, eqb}
 use Rattle.sheet.specs.Views.{firstOf, coreByCounts}
 use Rattle.fit.specs.Lists.{numbers, at, joined, select, sum, occurs}
 use Rattle.fit.specs.Priority.{isOn, Above, order, tasksOn}
-use Rattle.fit.proofs.Lists.{each-at, each-number, joined-next, numbers-length, select-length, select-all, sum-numbers}
+use Rattle.fit.proofs.Lists.{each-at, each-number, joined-next, numbers-length, select-all, sum-numbers}
 use Rattle.fit.proofs.Priority.{order-members, order-holds, order-length, order-rising}
 use Rattle.fit.proofs.Counting.{sum-occurs}
 use Rattle.fit.proofs.Rising.{each-map, pairs-at, member-at, above-once}
@@ -76,10 +76,6 @@ module _ (p core : ℕ → ℕ) (n : ℕ) where
 
   first-size : (k : ℕ) → firstOf (λ j. length (tasks j)) k ≡ length (select (λ x. ltb x k) (map core (numbers 0 n)))
   first-size k = first-sum _ k ∙ ap (λ g. sum g (numbers 0 k)) (fun-ext order-size) ∙ sum-occurs (map core (numbers 0 n)) k
-
-  -- The orders of the first k cores have at most n tasks together.
-  pub grouping-short : (k : ℕ) → length (joined tasks (numbers 0 k)) ≤ n
-  grouping-short k = omega (arith, joined-length tasks k, first-size k, select-length (λ x. ltb x k) (map core (numbers 0 n)), length-map (numbers 0 n) core, numbers-length 0 n)
 
   -- where every task is on one of c cores
   module _ (c : ℕ) (placed : (i : ℕ) → i < n → core i < c) where
