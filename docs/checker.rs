@@ -12,8 +12,8 @@
 // The answer is one line. `accepted tasks 2 cores 1`: no rule is broken, and a machine can run by the
 // sheet. `refused 14 place 64`: rule 14 is the first that is broken. The place is the task's number
 // (in version 2 its position), or 64 plus the core's number, or for rule 6 the offset of the byte, or
-// 0 where nothing is named. The exit status is 0 for accepted, 1 for refused, and 2 if standard input
-// cannot be read or standard output cannot be written.
+// 0 where nothing is named. The exit status is 0 for accepted, 1 for refused, and 2 if there is an
+// argument, or standard input cannot be read, or standard output cannot be written.
 
 use std::io::{self, Read, Write};
 use std::process::ExitCode;
@@ -175,7 +175,7 @@ pub fn check(sheet: &[u8]) -> Answer {
     }
 
     // From here on every field is in its range. So no product or sum below overflows 64 bits: the
-    // greatest is that of rule 14, less than 64 * 60,000 * 120,000 * 120,000 + 255 * 120,000 < 2^56.
+    // greatest is that of rule 14, less than 64 * 60,000 * 120,000 * 120,000 + 254 * 120,000 < 2^56.
 
     // Rule 12, Stretch (section 3).
     for (i, task) in tasks.iter().enumerate() {
@@ -285,9 +285,14 @@ fn refused(number: u8, place: usize) -> Answer {
     }
 }
 
-/// Unused where this file is a module of another program. A closed stream counts as an empty one.
+/// Unused where this file is a module of another program. On Unix a closed standard input counts as
+/// empty, and what goes to a closed standard output is lost: Rust opens /dev/null for them.
 #[allow(dead_code)]
 fn main() -> ExitCode {
+    if std::env::args_os().len() > 1 {
+        let _ = writeln!(io::stderr(), "usage: checker < SHEET");
+        return ExitCode::from(2);
+    }
     let mut sheet = Vec::new();
     if let Err(error) = io::stdin().read_to_end(&mut sheet) {
         let _ = writeln!(io::stderr(), "checker: standard input: {error}");

@@ -1,6 +1,6 @@
 #!/usr/bin/env bash
-# The simple checker, built by the line in its own head, from outside: the examples of docs/SHEET.md, streams, exit status, and some
-# hundred sheets beside the command homvaits. Argument: a seed for the sheets.
+# The simple checker, built by the line in its own head, from outside: the examples of docs/SHEET.md, streams, exit status, and 300
+# sheets beside the command homvaits. Argument: a seed for the sheets.
 set -euo pipefail
 cd "$(dirname "$0")/.."
 room=$(mktemp -d)
@@ -66,9 +66,10 @@ sheet 'section 14' 0 'accepted tasks 2 cores 1' "$fourteen"
 sheet 'section 14, stroke 5' 1 'refused 14 place 64' "${fourteen/00 04/00 05}"
 sheet 'section 14, stroke 8' 1 'refused 25 place 1' "${fourteen/00 04/00 08}"
 
-# Streams. A closed one is an empty one.
+# Streams. A closed input is an empty one; a closed output takes the line and loses it.
 bytes "$ten" > "$room/sheet"
 try 'a pipe' 0 'accepted tasks 2 cores 1' '' bash -c "cat '$room/sheet' | '$checker'"
+try 'an argument' 2 '' 'usage: checker < SHEET' bash -c "'$checker' '$room/sheet' < '$room/sheet'"
 try 'a closed input' 1 'refused 1 place 0' '' bash -c "'$checker' <&-"
 try 'a closed output' 0 '' '' bash -c "'$checker' < '$room/sheet' >&-"
 try 'all closed' 1 '' '' bash -c "'$checker' <&- >&- 2>&-"

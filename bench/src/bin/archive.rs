@@ -87,11 +87,11 @@ fn line(name: &str, sheets: &[Vec<u8>]) {
     let mut accepted = 0;
     for sheet in sheets {
         let answer = binding::check(sheet);
-        assert_eq!(answer, plain::check(sheet), "they differ on a sheet");
+        assert_eq!(answer, plain::check(sheet), "they differ on {sheet:02x?}");
         assert_eq!(
             answer,
             as_library(simple::check(sheet)),
-            "they differ on a sheet"
+            "they differ on {sheet:02x?}"
         );
         accepted += (answer.refusal == 0) as usize;
     }

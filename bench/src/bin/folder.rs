@@ -2,9 +2,9 @@
 //! reading the files alone. Arguments: seed, and the path of the program
 //! `homvaits`.
 //!
-//! Each side is a process that walks the folder and uses all processors, one of
-//! them the first processor alone where there is a `taskset`. The files have
-//! just been written, so no disk is timed.
+//! Each side is a process that walks the folder and uses all processors; where
+//! there is a `taskset`, one more side uses the first processor alone. The files
+//! have just been written, so no disk is timed.
 
 use std::env;
 use std::fs::{self, File};

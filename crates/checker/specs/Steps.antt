@@ -49,7 +49,7 @@ soundAt f i =
 unfoldable pub earlyRows : Bool → Figures → List Row
 earlyRows misordered f = taskRows misordered f ++ coreRows f
 
--- the positions stand core by core and rise in priority on each, so that they need no sort
+-- the positions stand core by core, and in priority order on each, so that they need no sort
 pub record Sorted (f : Figures) : Type 0 where
   pub cores : (i j : ℕ) → i < j → j < f .tasks → f .core i ≤ f .core j
   pub above : (i j : ℕ) → i < j → j < f .tasks → f .core i ≡ f .core j → Above (f .period) i j

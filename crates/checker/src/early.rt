@@ -140,7 +140,7 @@ fn used_cores(on: &[u8], n: u8) -> [bool; 256]
     used
 }
 
-// The first of c cores that has none.
+// The first of c cores that has no task.
 fn first_bare(on: &[u8], n: u8, c: u8) -> Found
     ensures { λ r. ⌜ foundOf r ≡ find (bare n (at (now (on .entry)))) (numbers 0 c) ⌝ }
 {

@@ -34,7 +34,7 @@ fn order_of(sorted: bool, tasks: &[u8], on: &[u8], n: u8) -> [u8; 64]
     order::by_core(&periods, on, n)
 }
 
-// A load, brought to a factor that is `times` the one before, and one task more of budget e.
+// A load, brought to a factor that is `times` the one before, and one task more of budget e. The bound is 65,535 * (2^32 - 1).
 fn level_sum(load: u64, times: u32, e: u16, divisor: u32) -> u64
     requires { ⌜ load * times ≤ 281470681677825 ⌝ }
     ensures { λ r. ⌜ r ≡ load * times + e * divisor ⌝ }
@@ -54,7 +54,7 @@ fn judge_over(tasks: &[u8], list: &[u8]) -> Judged
 }
 
 // Rules 13 and 14 over a core's tasks in priority order, in one pass. `load` is that of the tasks passed at the factor `last` of the last of
-// them, `room` the least that one of them has to spare.
+// them, `room` the least that one of them has to spare: before the first it is 2^40, above what any stroke takes.
 fn judge(stroked: bool, tasks: &[u8], list: &[u8], pivot: u16, divisor: u32) -> Judged
     requires { ⌜ Each (λ i. (10 * i + 10 ≤ length (now tasks)) × (0 < factorAt (now tasks) i)) (now list) ⌝ }
     ensures { λ r. ⌜ r ≡ judged (chainBreak (factorAt (now (tasks .entry))) 1 (now (list .entry))) (levelOverloaded (budgetAt (now (tasks .entry))) (strokeOfPosition stroked (now (tasks .entry))) (factorAt (now (tasks .entry))) pivot divisor (now (list .entry))) ⌝ }

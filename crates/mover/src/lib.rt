@@ -42,8 +42,8 @@ fn copy_inside(part: &mut [u8], from: &[u8], a: usize, n: usize)
     }
 }
 
-// The n bytes of a slice from offset a on; past its end there are zeros. At most 64 that it has are all read before the first is written:
-// then they go by words.
+// The n bytes of a slice from offset a on; past its end there are zeros. Where it has all n and n is at most 64, they are all read before
+// the first is written, so that the compiler copies them by words.
 fn copy(part: &mut [u8], from: &[u8], a: usize, n: usize)
     requires { ⌜ (n ≤ length (now part)) × (a ≤ 65536) ⌝ }
     ensures { λ _. ⌜ now (part .exit) ≡ over (bytes (now (from .entry)) a n) (now (part .entry)) ⌝ }

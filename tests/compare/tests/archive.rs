@@ -184,9 +184,9 @@ const ALL: [&str; 34] = [
     "pivot 60,001",
     "divisor 0",
     "divisor 120,001",
-    "stretch by less than a tick",
+    "stretch by at most a tick",
     "chain by one",
-    "load by less than a tick",
+    "load by at most a tick",
     "shortest period",
     "longest period",
     "whole period as budget",
@@ -324,7 +324,7 @@ fn marks(entry: &Entry) -> Vec<&'static str> {
             let longer = (task.period + 1) * core.divisor;
             mark(
                 core.pivot * task.factor <= longer,
-                "stretch by less than a tick",
+                "stretch by at most a tick",
             );
         }
         13 => {
@@ -338,7 +338,7 @@ fn marks(entry: &Entry) -> Vec<&'static str> {
             let mut less = sheet.clone();
             let last = *less.by_priority(number).last().expect("it has a task");
             less.tasks[last].budget -= 1;
-            mark(less.has_room(number), "load by less than a tick");
+            mark(less.has_room(number), "load by at most a tick");
             let mut less = sheet.clone();
             for task in &mut less.tasks {
                 task.stroke = task.stroke.max(2) - 1;

@@ -10,7 +10,7 @@ use crate::*;
 ///   cores, most of which are full (load exactly one); others are planned, made
 ///   by hand with figures of every size, or as long as sheets get;
 /// - 25 are such with one field at the bound of a rule or one past it, for each
-///   rule (`near_miss`), so that some of them are accepted;
+///   rule (`at_bound`), so that some of them are accepted;
 /// - 10 have one damage of another kind;
 /// - 12 have two or three of these on top of each other, so that rules behind
 ///   the first are broken too;
@@ -44,12 +44,12 @@ fn sheet(rng: &mut Rng, version: u8, planned: &[Vec<u8>]) -> Vec<u8> {
     let mut bytes = sound(rng, version, planned);
     match kind {
         0..45 => {}
-        45..70 => near_miss(rng, version, &mut bytes),
+        45..70 => at_bound(rng, version, &mut bytes),
         70..80 => bytes = damaged(rng, version, &bytes),
         _ => {
             for _ in 0..rng.range(2, 3) {
                 match rng.once_in(2) {
-                    true => near_miss(rng, version, &mut bytes),
+                    true => at_bound(rng, version, &mut bytes),
                     false => bytes = damaged(rng, version, &bytes),
                 }
             }
@@ -100,9 +100,9 @@ fn damaged(rng: &mut Rng, version: u8, sheet: &[u8]) -> Vec<u8> {
     }
 }
 
-/// Put one field at the bound of a rule or one past it, or leave a sheet that
-/// has no such field as it is.
-fn near_miss(rng: &mut Rng, version: u8, bytes: &mut Vec<u8>) {
+/// Put one field at the bound of a rule or one past it; for rules without a
+/// bound, one small damage. A sheet that has no such field stays as it is.
+fn at_bound(rng: &mut Rng, version: u8, bytes: &mut Vec<u8>) {
     let Some(places) = Places::of(bytes) else {
         return;
     };

@@ -470,7 +470,7 @@ pub fn two_rules(to: &mut Checks) {
         "12 at task 1 before 14",
         12,
         1,
-        pair(v).factor(1, 3).budget(1, 9),
+        pair(v).factor(1, 3).budget(0, 2).budget(1, 9),
     );
 }
 

@@ -42,13 +42,13 @@ fn spare(to: &mut Checks) {
         five(1).count(0, 3),
     );
     to.refused(
-        "A version 2 sheet with the number 1",
+        "A version 2 sheet with the version 1",
         6,
         30,
         pair(2).version(1),
     );
     to.refused(
-        "A version 3 sheet with the number 1",
+        "A version 3 sheet with the version 1",
         6,
         13,
         pair(3).version(1),

@@ -76,7 +76,7 @@ fn spare(to: &mut Checks) {
         pair(2).spare(0, [2, 1]),
     );
     to.refused(
-        "A version 3 sheet with the number 2",
+        "A version 3 sheet with the version 2",
         6,
         13,
         pair(3).version(2),
@@ -101,7 +101,7 @@ fn order(to: &mut Checks) {
         one(2, (4, 1), 1, (4, 1)).core(0, 1),
     );
     to.refused(
-        "A version 1 sheet with the number 2: all old numbers are 0",
+        "A version 1 sheet with the version 2: all old numbers are 0",
         23,
         0,
         three(1).version(2),

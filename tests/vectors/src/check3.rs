@@ -91,7 +91,7 @@ fn spare(to: &mut Checks) {
     );
     to.refused("Byte 2 of core record 1", 6, 68, five(3).count(1, 2));
     to.refused(
-        "A version 2 sheet with the number 3",
+        "A version 2 sheet with the version 3",
         6,
         30,
         pair(2).version(3),
@@ -126,7 +126,7 @@ fn stroke(to: &mut Checks) {
         sheet(3, &[(300, 254, 0, 255, 1)], &[(300, 1)]),
     );
     to.refused(
-        "A version 1 sheet with the number 3: all are 0",
+        "A version 1 sheet with the version 3: all are 0",
         25,
         0,
         pair(1).version(3),
