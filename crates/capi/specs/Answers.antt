@@ -20,7 +20,7 @@ use Rattle.capi.specs.declared.Margined.{Margined}
 
 -- the number of the layout of structs and signatures of include/homvaits.h; raised whenever one of them changes
 unfoldable pub layout : ℕ
-layout = 2
+layout = 1
 
 -- what the checker, the planner and the listing answer
 unfoldable pub checked_of : check.Outcome → Checked

@@ -9,7 +9,6 @@ ghost use Rattle.sheet.specs.Table.{scan};
 ghost use Rattle.timing.specs.Calls.{Call, release, finish, tick};
 ghost use Rattle.state.specs.Operations.{answer_of, ask, step};
 ghost use Rattle.dispatcher.specs.Starts.{sheet_answer, sheet_state, list_answer, list_state};
-ghost use Rattle.state.specs.TwoRuns.{Apart};
 ghost use Rattle.dispatcher.specs.OnTime.{Kept};
 ghost use Rattle.row.specs.Row.{outcome_of, row_outcome, row_states, row_bytes};
 ghost use Rattle.row.specs.OnTime.{RowRuns};
@@ -99,7 +98,7 @@ pub struct Margined {
     pub margin: i32,
 }
 
-const LAYOUT: u32 = 2;
+const LAYOUT: u32 = 1;
 
 #[unsafe(no_mangle)]
 pub extern "C" fn homvaits_layout() -> u32
@@ -111,8 +110,8 @@ pub extern "C" fn homvaits_layout() -> u32
 // The same, under a name that has the number, for linkers and build scripts. It promises the number in its name, so another number wants
 // another name.
 #[unsafe(no_mangle)]
-pub extern "C" fn homvaits_layout_2() -> u32
-    ensures { result ≡ 2 }
+pub extern "C" fn homvaits_layout_1() -> u32
+    ensures { result ≡ 1 }
 {
     homvaits_layout()
 }
@@ -216,37 +215,34 @@ fn hand_back(r: Step) -> StepAnswer
     }
 }
 
-// The core of an accepted start ends every job on time, whatever calls follow, and where its strokes are of one tick, what is done to the
-// tasks below a task changes nothing for that task and those above it.
+// The core of an accepted start ends every job on time, whatever calls follow.
 #[unsafe(no_mangle)]
-pub extern "C" fn homvaits_start(sheet: &[u8], core: u64, classes: &[u8]) -> StepAnswer
-    ensures value { result ≡ stepped_of (sheet_answer sheet.now core classes.now) (sheet_state sheet.now core classes.now) }
+pub extern "C" fn homvaits_start(sheet: &[u8], core: u64) -> StepAnswer
+    ensures value { result ≡ stepped_of (sheet_answer (verdict sheet.now) core) (sheet_state (verdict sheet.now) sheet.now core) }
     ensures on_time { result.refusal ≡ 0 → (cs : List Call) → Kept sheet.now core result.core cs }
-    ensures two_runs { Apart result.core }
 {
-    hand_back(dispatcher::start_sheet(sheet, core, classes))
+    hand_back(dispatcher::start_sheet(sheet, core))
 }
 
 #[unsafe(no_mangle)]
 pub extern "C" fn homvaits_start_list(jobs: &[u8]) -> StepAnswer
-    ensures value { result ≡ stepped_of (list_answer (scan (list_rows 0 jobs.now))) (list_state (scan (list_rows 0 jobs.now)) jobs.now) }
-    ensures two_runs { Apart result.core }
+    ensures { result ≡ stepped_of (list_answer (scan (list_rows 0 jobs.now))) (list_state (scan (list_rows 0 jobs.now)) jobs.now) }
 {
     hand_back(dispatcher::start_list(jobs))
 }
 
 #[unsafe(no_mangle)]
-pub extern "C" fn homvaits_release(core: Core, class: u64, number: u64) -> StepAnswer
-    ensures { result ≡ stepped_of (ask (release class number) core) (step (release class number) core) }
+pub extern "C" fn homvaits_release(core: Core, number: u64) -> StepAnswer
+    ensures { result ≡ stepped_of (ask (release number) core) (step (release number) core) }
 {
-    hand_back(core.release(class, number))
+    hand_back(core.release(number))
 }
 
 #[unsafe(no_mangle)]
-pub extern "C" fn homvaits_finish(core: Core, class: u64, number: u64) -> StepAnswer
-    ensures { result ≡ stepped_of (ask (finish class number) core) (step (finish class number) core) }
+pub extern "C" fn homvaits_finish(core: Core, number: u64) -> StepAnswer
+    ensures { result ≡ stepped_of (ask (finish number) core) (step (finish number) core) }
 {
-    hand_back(core.finish(class, number))
+    hand_back(core.finish(number))
 }
 
 #[unsafe(no_mangle)]

@@ -2,34 +2,43 @@
 -- Assumes nothing.
 use Prim.Native.Nat.{ℕ}
 use mathlib.Core.Path.{◌≡◌, refl, sym, ap, ◌∙◌}
+use mathlib.Core.Bool.{Bool, true, false, cond}
 use mathlib.Core.Option.{Option, none, some}
 use mathlib.Core.List.{List, [], ◌∷◌, map}
 use native.Mathlib.Omega.{arith}
+use lib.Dec.{ltb}
 use Rattle.sheet.specs.Table.{scan, Refused}
+use Rattle.fit.specs.Lists.{Each, EachPair}
+use Rattle.checker.specs.Verdict.{verdict}
 use Rattle.jobs.specs.Jobs.{list_rows}
 use Rattle.timing.specs.Calls.{Call, release, finish, tick, accepted, refused, modify, of_first, answer_by, next_by, next_stroke, answer, next, entry, log, run}
-use Rattle.timing.specs.OnTime.{is_accepted}
+use Rattle.timing.specs.Form.{Form}
 use Rattle.state.specs.declared.Core.{Core}
 use Rattle.timing.proofs.Plain.{plain}
 use Rattle.state.specs.State.{with_state, InForm}
 use Rattle.state.specs.Operations.{step}
-use Rattle.dispatcher.specs.Starts.{state_of, sheet_answer, sheet_state, list_answer, list_state, without_tasks, Taskless}
+use Rattle.dispatcher.specs.Starts.{state_of, sheet_answer, sheet_tasks, sheet_state, list_answer, list_state, without_tasks, Taskless}
 use Rattle.state.proofs.Foreign.{form_foreign}
 use Rattle.state.proofs.Outcomes.{same_state}
 use Rattle.state.proofs.Logs.{log_form}
-use Rattle.dispatcher.proofs.Starts.{state_plain, state_places, state_form, form_none}
+use Rattle.dispatcher.proofs.Starts.{state_plain, state_places, state_form}
+use Rattle.checker.specs.Verdict as verdict
 
--- what no tasks answer and hand on
+-- no tasks are in form, and what they answer and hand on
+form_none : Form []
+unfolding Each EachPair
+form_none = record { count = omega arith; sound = tt; distinct = tt; ordered = tt }
+
 next_none : (c : Call) → next c (plain []) ≡ plain []
 unfolding next next_by next_stroke modify of_first
-next_none (release v j) = refl
-next_none (finish v j) = refl
+next_none (release j) = refl
+next_none (finish j) = refl
 next_none tick = refl
 
 answer_none : (c : Call) → answer c (plain []) ≡ without_tasks c
 unfolding answer answer_by of_first without_tasks
-answer_none (release v j) = refl
-answer_none (finish v j) = refl
+answer_none (release j) = refl
+answer_none (finish j) = refl
 answer_none tick = refl
 
 log_none : (cs : List Call) → log answer next (plain []) cs ≡ map (λ c. entry c (without_tasks c)) cs
@@ -61,9 +70,17 @@ taskless = record {
 }
 
 -- where a start is refused
-pub sheet_refused_idle : (s : List ℕ) (k : ℕ) (cs : List ℕ) (n p : ℕ) → sheet_answer s k cs ≡ refused n p → Taskless (sheet_state s k cs)
-unfolding is_accepted
-sheet_refused_idle s k cs n p a = rw a taskless
+pub sheet_refused_idle : (s : List ℕ) (k n p : ℕ) → sheet_answer (verdict s) k ≡ refused n p → Taskless (sheet_state (verdict s) s k)
+unfolding sheet_answer sheet_state
+sheet_refused_idle s k n p a = go (verdict s) a
+  where
+    on : (b : Bool) → cond b accepted (refused 9 0) ≡ refused n p → Taskless (state_of (cond b (sheet_tasks s k) []))
+    on true x = absurd (let z : ◌≡◌ {A = ℕ} 0 1 = cc in omega arith)
+    on false x = taskless
+
+    go : (o : verdict.Outcome) → sheet_answer o k ≡ refused n p → Taskless (sheet_state o s k)
+    go (verdict.accepted m c) x = on (ltb k c) x
+    go (verdict.refused w q) x = taskless
 
 pub list_refused_idle : (l : List ℕ) (n p : ℕ) → list_answer (scan (list_rows 0 l)) ≡ refused n p → Taskless (list_state (scan (list_rows 0 l)) l)
 unfolding list_answer list_state

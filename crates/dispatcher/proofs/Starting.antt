@@ -25,7 +25,7 @@ use Rattle.views.specs.Renamed.{Renamed}
 use Rattle.timing.specs.declared.Task.{Task}
 use Rattle.timing.specs.Serving.{no_task}
 use Rattle.state.specs.declared.Core.{Core}
-use Rattle.dispatcher.specs.Starts.{fresh_task, fresh_tasks, guest, state_of}
+use Rattle.dispatcher.specs.Starts.{fresh_task, fresh_tasks, state_of}
 use Rattle.timing.specs.Calls.{no_stroke}
 use Rattle.state.specs.State.{stroke_in}
 use Rattle.state.specs.Steps.{changed}
@@ -33,13 +33,13 @@ use Rattle.dispatcher.specs.Steps.{fresh_by}
 use Rattle.state.proofs.Aging.{state_is}
 
 -- a task read from a record
-pub fresh_read : (records : List ℕ) (size j stroke number at p e : ℕ) (t : Task) → at ≡ size * j → p ≡ word records at → e ≡ word records (at + 2) → t ≡ fresh_task p e stroke 2 number → t ≡ fresh_task (word records (size * j)) (word records (size * j + 2)) stroke 2 number
+pub fresh_read : (records : List ℕ) (size j stroke number at p e : ℕ) (t : Task) → at ≡ size * j → p ≡ word records at → e ≡ word records (at + 2) → t ≡ fresh_task p e stroke number → t ≡ fresh_task (word records (size * j)) (word records (size * j + 2)) stroke number
 fresh_read records size j stroke number at p e t a b c d = d ∙ rw (b, c, a)
 
 fresh_append : (p e x r : ℕ → ℕ) (l m : List ℕ) → fresh_by p e x r (l ++ m) ≡ fresh_by p e x r l ++ fresh_by p e x r m
 unfolding fresh_by
 fresh_append p e x r [] m = refl
-fresh_append p e x r (i ∷ l) m = ap (λ y. fresh_task (p i) (e i) (x i) 2 (r i) ∷ y) (fresh_append p e x r l m)
+fresh_append p e x r (i ∷ l) m = ap (λ y. fresh_task (p i) (e i) (x i) (r i) ∷ y) (fresh_append p e x r l m)
 
 -- the first i of the listed tasks are in their places, and zeros past them
 pub record Filled (p e x r : ℕ → ℕ) (l : List ℕ) (i : ℕ) (s : Core) : Type 0 where
@@ -52,7 +52,7 @@ module _ (p e x r : ℕ → ℕ) where
   fill_start l s h = record { tasks = ap (λ y. y.tasks) h; stroke = ap stroke_in h }
 
   -- the task of place i of an order is put there
-  pub fill_turn : (o : List ℕ) (count i stroke number : ℕ) (t : Task) (s : Core) → length o ≡ 64 → count ≤ 64 → i < count → Filled p e x r (take count o) i s → stroke ≡ x (get_or o i 0) → number ≡ r (get_or o i 0) → t ≡ fresh_task (p (get_or o i 0)) (e (get_or o i 0)) stroke 2 number → Filled p e x r (take count o) (i + 1) (changed s i t)
+  pub fill_turn : (o : List ℕ) (count i stroke number : ℕ) (t : Task) (s : Core) → length o ≡ 64 → count ≤ 64 → i < count → Filled p e x r (take count o) i s → stroke ≡ x (get_or o i 0) → number ≡ r (get_or o i 0) → t ≡ fresh_task (p (get_or o i 0)) (e (get_or o i 0)) stroke number → Filled p e x r (take count o) (i + 1) (changed s i t)
   unfolding fresh_by
   fill_turn o count i stroke number t s size most lt f Long-as named own =
       let l : List ℕ = take count o in
@@ -62,7 +62,7 @@ module _ (p e x r : ℕ → ℕ) where
       let width : length front ≡ i = length-map (take i l) _ ∙ simp length-take (omega arith) in
       let one : 64 - i ≡ suc (64 - suc i) = omega arith in
       let more : front ++ t ∷ [] ≡ fresh_by p e x r (take (suc i) l) =
-      ap (λ u. front ++ u ∷ []) (own ∙ ap (λ y. fresh_task (p j) (e j) y 2 number) Long-as ∙ ap (fresh_task (p j) (e j) (x j) 2) named) ∙ sym (ap (fresh_by p e x r) (take-suc l i 0 long ∙ ap (λ u. take i l ++ u ∷ []) (get_or-take count o i 0 lt)) ∙ fresh_append p e x r (take i l) (j ∷ [])) in
+      ap (λ u. front ++ u ∷ []) (own ∙ ap (λ y. fresh_task (p j) (e j) y number) Long-as ∙ ap (fresh_task (p j) (e j) (x j)) named) ∙ sym (ap (fresh_by p e x r) (take-suc l i 0 long ∙ ap (λ u. take i l ++ u ∷ []) (get_or-take count o i 0 lt)) ∙ fresh_append p e x r (take i l) (j ∷ [])) in
       record {
         tasks =
             ap (λ u. set u i t) (f.tasks ∙ ap (λ n. front ++ replicate n no_task) one)
@@ -96,22 +96,22 @@ fresh_core grouped stroked records cores periods on n c k o s few after a b h q 
     ∙ rw (same, after))
 
 -- the fresh state of a list, whose tasks have their places as numbers
-pub fresh_list : (p e : ℕ → ℕ) (n : ℕ) (o : Order) (s : Core) → n ≤ 64 → Ordered (order_by Period p (min n 64)) o → s ≡ state_of (fresh_by p e (λ j. 1) (λ j. j) (take o.count o.tasks)) → s ≡ state_of (fresh_tasks p e (λ j. 1) guest (order_by Period p n))
+pub fresh_list : (p e : ℕ → ℕ) (n : ℕ) (o : Order) (s : Core) → n ≤ 64 → Ordered (order_by Period p (min n 64)) o → s ≡ state_of (fresh_by p e (λ j. 1) (λ j. j) (take o.count o.tasks)) → s ≡ state_of (fresh_tasks p e (λ j. 1) (order_by Period p n))
 unfolding fresh_by fresh_tasks
 fresh_list p e n o s few h q =
     let same : min n 64 ≡ n = omega arith in
-    q ∙ ap (λ l. state_of (fresh_tasks p e (λ j. 1) guest l)) (h.tasks ∙ ap (order_by Period p) same)
+    q ∙ ap (λ l. state_of (fresh_tasks p e (λ j. 1) l)) (h.tasks ∙ ap (order_by Period p) same)
 
 -- tasks under other numbers are fresh alike
-fresh_renumbered : (p e x q d y r : ℕ → ℕ) (l : List ℕ) → Each (λ j. (q (r j) ≡ p j) × (d (r j) ≡ e j) × (y (r j) ≡ x j)) l → fresh_tasks q d y guest (map r l) ≡ fresh_by p e x r l
+fresh_renumbered : (p e x q d y r : ℕ → ℕ) (l : List ℕ) → Each (λ j. (q (r j) ≡ p j) × (d (r j) ≡ e j) × (y (r j) ≡ x j)) l → fresh_tasks q d y (map r l) ≡ fresh_by p e x r l
 unfolding fresh_tasks fresh_by Each
 fresh_renumbered p e x q d y r [] h = refl
 fresh_renumbered p e x q d y r (j ∷ l) h = rw (h.0.0, h.0.1, h.0.2, fresh_renumbered p e x q d y r l h.1)
 
 -- the fresh tasks of a core, by position and by number
-pub fresh_renamed : (f g : Figures) (r : ℕ → ℕ) → Renamed f g r → (k : ℕ) → fresh_tasks g.period g.budget g.stroke guest (order_on g k) ≡ fresh_by f.period f.budget f.stroke r (order_on f k)
+pub fresh_renamed : (f g : Figures) (r : ℕ → ℕ) → Renamed f g r → (k : ℕ) → fresh_tasks g.period g.budget g.stroke (order_on g k) ≡ fresh_by f.period f.budget f.stroke r (order_on f k)
 unfolding order_on
 fresh_renamed f g r s k =
-    ap (fresh_tasks g.period g.budget g.stroke guest) (s.order k)
+    ap (fresh_tasks g.period g.budget g.stroke) (s.order k)
     ∙ fresh_renumbered f.period f.budget f.stroke g.period g.budget g.stroke r (order_on f k)
     (each_of _ (λ j m. (s.period j m.0, s.budget j m.0, s.stroke j m.0)) (order_members f.period f.core k f.tasks))

@@ -1,5 +1,5 @@
--- The two starts, from a sheet and from a job list (docs/SHEET.md, sections 6, 14 and 16). A refused start hands back the state without tasks.
-use Rattle.std.specs.Prelude.{ℕ, ◌-◌, ◌≡◌, Bool, false, cond, ◌||◌, List, [], ◌∷◌, ◌++◌, map, length, replicate, ltb, eqb}
+-- The two starts, from a sheet and from a job list (docs/SHEET.md, sections 6 and 14). A refused start hands back the state without tasks.
+use Rattle.std.specs.Prelude.{ℕ, ◌-◌, ◌≡◌, cond, List, [], ◌++◌, map, length, replicate, ltb}
 use Rattle.std.proofs.Math.Option.{Option, none, some}
 use Rattle.sheet.specs.Table.{Refused, scan}
 use Rattle.sheet.specs.Views.{figures}
@@ -9,9 +9,7 @@ use Rattle.fit.specs.Lists.{Each}
 use Rattle.fit.specs.Cores.{order_on}
 use Rattle.jobs.specs.Jobs.{job_count, job_period, job_budget, list_rows}
 use Rattle.timing.specs.declared.Task.{Task}
-use Rattle.timing.specs.Tasks.{with_class}
-use Rattle.timing.specs.Calls.{Call, release, finish, tick, Answer, accepted, idle, refused, by_class, no_stroke, entry, log, run}
-use Rattle.timing.specs.OnTime.{is_accepted}
+use Rattle.timing.specs.Calls.{Call, release, finish, tick, Answer, accepted, idle, refused, no_stroke, entry, log, run}
 use Rattle.timing.specs.Serving.{no_task}
 use Rattle.timing.specs.Form.{Fresh}
 use Rattle.state.specs.declared.Core.{Core}
@@ -20,68 +18,46 @@ use Rattle.state.specs.Operations.{answer_of, ask, step}
 use Rattle.state.specs.State.{tasks_of, stroke_in, InForm}
 use Rattle.checker.specs.Verdict as verdict
 
--- a task of class c with its age equal to its period and nothing left
-abbrev pub fresh_task : (p e q c i : ℕ) → Task
-fresh_task p e q c i = record { period = p; budget = e; age = p; left = 0; number = i; stroke = q; class = c }
+-- a task with its age equal to its period and nothing left
+abbrev pub fresh_task : (p e q i : ℕ) → Task
+fresh_task p e q i = record { period = p; budget = e; age = p; left = 0; number = i; stroke = q }
 
--- the listed tasks, fresh, with p, e, stroke length q and class c by task number
-unfoldable pub fresh_tasks : (p e q c : ℕ → ℕ) → List ℕ → List Task
-fresh_tasks p e q c l = map (λ i. fresh_task (p i) (e i) (q i) (c i) i) l
-
--- the class of a guest's task
-abbrev pub guest : ℕ → ℕ
-guest i = 2
-
--- the tasks with class bytes in their order
-unfoldable pub classed : List ℕ → List Task → List Task
-classed [] l = []
-classed (c ∷ cs) [] = []
-classed (c ∷ cs) (t ∷ l) = with_class t c ∷ classed cs l
+-- the listed tasks, fresh, with p, e and stroke length q by task number
+unfoldable pub fresh_tasks : (p e q : ℕ → ℕ) → List ℕ → List Task
+fresh_tasks p e q l = map (λ i. fresh_task (p i) (e i) (q i) i) l
 
 -- the state that has these tasks and zeros past them, and in which no stroke lasts
 unfoldable pub state_of : List Task → Core
 state_of l = record { count = length l; tasks = l ++ replicate (64 - length l) no_task; stroke_task = 0; stroke_left = 0 }
 
--- a class byte is above 2
-unfoldable pub has_bad_class : List ℕ → Bool
-has_bad_class [] = false
-has_bad_class (c ∷ cs) = ltb 2 c || has_bad_class cs
+-- what a start of core k of a sheet answers: the refusal of the sheet (1 to 14, 23 and 25), then 9 with place 0 where there is no such core
+unfoldable pub sheet_answer : verdict.Outcome → ℕ → Answer
+sheet_answer (verdict.accepted n c) k = cond (ltb k c) accepted (refused 9 0)
+sheet_answer (verdict.refused w p) k = refused w p
 
--- what the class bytes of n tasks are answered: 5 where there are more or fewer, then 27 where one is above 2, with place 0
-unfoldable pub class_answer : ℕ → List ℕ → Answer
-class_answer n cs = cond (eqb (length cs) n) (cond (has_bad_class cs) (refused 27 0) accepted) (refused 5 0)
+-- the tasks of core k of a sheet in priority order, fresh
+unfoldable pub sheet_tasks : List ℕ → ℕ → List Task
+sheet_tasks s k = fresh_tasks (figures s).period (figures s).budget (figures s).stroke (order_on (figures s) k)
 
--- what a start of core k with n tasks of a sheet answers: the refusal of the sheet (1 to 14, 23 and 25), then 9 with place 0 where there is no
--- such core, then the refusal of the class bytes
-unfoldable pub start_answer : verdict.Outcome → (k n : ℕ) → List ℕ → Answer
-start_answer (verdict.accepted m c) k n cs = cond (ltb k c) (class_answer n cs) (refused 9 0)
-start_answer (verdict.refused w p) k n cs = refused w p
+-- the state that is handed back: of the core's tasks where the start is accepted, else without tasks
+unfoldable pub sheet_state : verdict.Outcome → List ℕ → ℕ → Core
+sheet_state (verdict.accepted n c) s k = state_of (cond (ltb k c) (sheet_tasks s k) [])
+sheet_state (verdict.refused w p) s k = state_of []
 
-abbrev pub sheet_answer : List ℕ → ℕ → List ℕ → Answer
-sheet_answer s k cs = start_answer (verdict.verdict s) k (length (order_on (figures s) k)) cs
-
--- the tasks of core k of a sheet in priority order, fresh, with the class bytes in this order
-unfoldable pub sheet_tasks : List ℕ → ℕ → List ℕ → List Task
-sheet_tasks s k cs = classed cs (fresh_tasks (figures s).period (figures s).budget (figures s).stroke guest (order_on (figures s) k))
-
--- the state that is handed back: of these tasks where the start is accepted, else without tasks
-abbrev pub sheet_state : List ℕ → ℕ → List ℕ → Core
-sheet_state s k cs = state_of (cond (is_accepted (sheet_answer s k cs)) (sheet_tasks s k cs) [])
-
--- what a start from sheet s, core k and class bytes cs promises: its answer, and every field of the state that it hands back
-pub record SheetStart (s : List ℕ) (k : ℕ) (cs : List ℕ) (r : Step) : Type 0 where
-  pub answer : answer_of r.answer ≡ sheet_answer s k cs
-  pub core : r.core ≡ sheet_state s k cs
+-- what a start from sheet s and core k promises: its answer, and every field of the state that it hands back
+pub record SheetStart (s : List ℕ) (k : ℕ) (r : Step) : Type 0 where
+  pub answer : answer_of r.answer ≡ sheet_answer (verdict.verdict s) k
+  pub core : r.core ≡ sheet_state (verdict.verdict s) s k
 
 -- what a start from a job list answers: the refusal of the list (5, 4, 7, 8), if any
 unfoldable pub list_answer : Option Refused → Answer
 list_answer none = accepted
 list_answer (some r) = refused r.number r.place
 
--- the state that is handed back: of the listed tasks in priority order, numbered by their places in the list, with strokes of one tick, all
--- of them a guest's, where the start is accepted, else without tasks
+-- the state that is handed back: of the listed tasks in priority order, numbered by their places in the list, with strokes of one tick,
+-- where the start is accepted, else without tasks
 unfoldable pub list_state : Option Refused → List ℕ → Core
-list_state none l = state_of (fresh_tasks (job_period l) (job_budget l) (λ i. 1) guest (order_by Period (job_period l) (job_count l)))
+list_state none l = state_of (fresh_tasks (job_period l) (job_budget l) (λ i. 1) (order_by Period (job_period l) (job_count l)))
 list_state (some r) l = state_of []
 
 -- what a start from a job list promises; there is no core limit, for which 0 stands
@@ -96,10 +72,10 @@ pub record FreshCore (s : Core) : Type 0 where
   pub fresh : Each Fresh (tasks_of s)
   pub free : stroke_in s ≡ no_stroke
 
--- what a call on a state without tasks answers: 27 or 17 to a release or a finish, and every tick is idle
+-- what a call on a state without tasks answers: 17 to a release or a finish, and every tick is idle
 unfoldable pub without_tasks : Call → Answer
-without_tasks (release v j) = by_class v (refused 17 0)
-without_tasks (finish v j) = by_class v (refused 17 0)
+without_tasks (release j) = refused 17 0
+without_tasks (finish j) = refused 17 0
 without_tasks tick = idle
 
 -- what the state of a refused start of either kind is: in form, answering every list of calls as above, and changed by none

@@ -7,11 +7,9 @@ ghost use Rattle.fit.specs.declared.By.TheVariants.{Period};
 ghost use Rattle.fit.specs.Ring.{order_by};
 ghost use Rattle.fit.specs.Cores.{order_on};
 ghost use Rattle.jobs.specs.Jobs.{job_period, job_budget};
-ghost use Rattle.timing.specs.Tasks.{with_class};
-ghost use Rattle.state.specs.TwoRuns.{Apart};
-ghost use Rattle.dispatcher.specs.Starts.{fresh_task, fresh_tasks, guest, state_of, SheetStart, ListStart};
+ghost use Rattle.dispatcher.specs.Starts.{fresh_task, fresh_tasks, state_of, SheetStart, ListStart};
 ghost use Rattle.dispatcher.specs.OnTime.{Timely};
-ghost use Rattle.dispatcher.specs.Steps.{fresh_by, class_start};
+ghost use Rattle.dispatcher.specs.Steps.{fresh_by};
 
 use checker::Verdict;
 use fit::{By, Order};
@@ -19,9 +17,9 @@ use sheet::{Finding, Refusal};
 use state::{Answer, Core, Step};
 use timing::Task;
 
-// A guest's task whose age is its period, with nothing left.
+// A task whose age is its period, with nothing left.
 fn fresh(period: u16, budget: u16, stroke: u8, number: u8) -> Task
-    ensures { result ≡ fresh_task period budget stroke 2 number }
+    ensures { result ≡ fresh_task period budget stroke number }
 {
     Task {
         period,
@@ -30,7 +28,6 @@ fn fresh(period: u16, budget: u16, stroke: u8, number: u8) -> Task
         left: 0,
         number,
         stroke,
-        class: 2,
     }
 }
 
@@ -45,7 +42,6 @@ fn empty() -> Core
         left: 0,
         number: 0,
         stroke: 0,
-        class: 0,
     };
     Core {
         count: 0,
@@ -57,7 +53,7 @@ fn empty() -> Core
 
 // Record j of records of this size, which begin with period and budget, as a fresh task with a stroke length and a number.
 fn fresh_at(records: &[u8], size: u8, j: u8, stroke: u8, number: u8) -> Task
-    ensures { result ≡ fresh_task (word records.now (size * j)) (word records.now (size * j + 2)) stroke 2 number }
+    ensures { result ≡ fresh_task (word records.now (size * j)) (word records.now (size * j + 2)) stroke number }
 {
     let at = sheet::offset(size, j);
     fresh(
@@ -108,58 +104,15 @@ fn of_core(grouped: bool, stroked: bool, records: &[u8], n: u8, c: u8, k: u8) ->
 // The fresh state of a job list of n entries.
 fn of_list(list: &[u8], n: u8) -> Core
     requires { n ≤ 64 }
-    ensures { result ≡ state_of (fresh_tasks (job_period list.now) (job_budget list.now) (λ i. 1) guest (order_by Period (job_period list.now) n)) }
+    ensures { result ≡ state_of (fresh_tasks (job_period list.now) (job_budget list.now) (λ i. 1) (order_by Period (job_period list.now) n)) }
 {
     fresh_state(false, false, list, 4, jobs::in_order(By::Period, list, n))
 }
 
-// The task with another class.
-fn with_class(t: Task, class: u8) -> Task
-    ensures { result ≡ with_class t class }
-{
-    Task {
-        period: t.period,
-        budget: t.budget,
-        age: t.age,
-        left: t.left,
-        number: t.number,
-        stroke: t.stroke,
-        class,
-    }
-}
-
-// The start of a core whose tasks are given the classes, in their order: 5 where there are more or fewer of them, 27 where one is above 2.
-fn classify(core: Core, classes: &[u8]) -> Step
-    requires { core.count ≤ 64 }
-    ensures { result ≡ class_start core classes.now }
-{
-    let count = core.count;
-    if classes.len() != count {
-        return state::refuse(empty(), Refusal::Length, 0);
-    }
-    let mut next = core;
-    let mut i = 0;
-    while i < count {
-        let class = classes[i];
-        if 2 < class {
-            return state::refuse(empty(), Refusal::Class, 0);
-        }
-        let t = next.tasks[i];
-        next.tasks[i] = with_class(t, class);
-        i += 1;
-    }
-    Step {
-        answer: Answer::Accepted,
-        core: next,
-    }
-}
-
-// Starts a core from a sheet of any version, a core number and a class for each of its tasks: 1 to 14, 23 and 25, then 9 where there is no
-// such core, 5 where there are more or fewer classes than tasks, 27 where one is above 2, else its fresh state.
-pub fn start_sheet(sheet: &[u8], core: u64, classes: &[u8]) -> Step
-    ensures sheet_start { SheetStart sheet.now core classes.now result }
+// Starts a core from a sheet of any version and a core number: 1 to 14, 23 and 25, then 9 where there is no such core, else its fresh state.
+pub fn start_sheet(sheet: &[u8], core: u64) -> Step
+    ensures sheet_start { SheetStart sheet.now core result }
     ensures on_time { Timely sheet.now core result }
-    ensures two_runs { Apart result.core }
 {
     let verdict = checker::check(sheet);
     match verdict {
@@ -170,18 +123,17 @@ pub fn start_sheet(sheet: &[u8], core: u64, classes: &[u8]) -> Step
             }
             let grouped = sheet::is_grouped(sheet);
             let stroked = sheet::is_stroked(sheet);
-            classify(
-                of_core(grouped, stroked, &sheet[8..], tasks, cores, core as u8),
-                classes,
-            )
+            Step {
+                answer: Answer::Accepted,
+                core: of_core(grouped, stroked, &sheet[8..], tasks, cores, core as u8),
+            }
         }
     }
 }
 
-// Starts a core on the bench from a job list: 5, 4, 7, 8, else its fresh state, in which every task is a guest's.
+// Starts a core on the bench from a job list: 5, 4, 7, 8, else its fresh state.
 pub fn start_list(list: &[u8]) -> Step
-    ensures list_start { ListStart list.now result }
-    ensures two_runs { Apart result.core }
+    ensures { ListStart list.now result }
 {
     let finding = jobs::check_list(list, 0);
     match finding {

@@ -1,7 +1,7 @@
 -- The refusals (docs/SHEET.md, section 9).
 use Rattle.std.specs.Prelude.{ℕ}
 use Rattle.sheet.specs.declared.Refusal.{Refusal}
-use Rattle.sheet.specs.declared.Refusal.TheVariants.{Stub, Mark, Version, Count, Length, Spare, Period, Budget, Core, Bare, Factor, Stretch, Chain, Overload, NoFit, Tight, Unlisted, Early, Late, Quiet, Foreign, Start, Order, Row, Stroke, Rights, Class}
+use Rattle.sheet.specs.declared.Refusal.TheVariants.{Stub, Mark, Version, Count, Length, Spare, Period, Budget, Core, Bare, Factor, Stretch, Chain, Overload, NoFit, Tight, Unlisted, Early, Late, Quiet, Foreign, Start, Order, Row, Stroke}
 
 -- the number of each refusal, by its word
 abbrev pub number_of : Refusal → ℕ
@@ -30,5 +30,3 @@ number_of Start = 22
 number_of Order = 23
 number_of Row = 24
 number_of Stroke = 25
-number_of Rights = 26
-number_of Class = 27

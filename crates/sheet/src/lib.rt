@@ -35,8 +35,6 @@ pub enum Refusal {
     Order,
     Row,
     Stroke,
-    Rights,
-    Class,
 }
 
 // The first place at which something is found, if any.
@@ -82,8 +80,6 @@ pub fn number(word: Refusal) -> u8
         Refusal::Order => 23,
         Refusal::Row => 24,
         Refusal::Stroke => 25,
-        Refusal::Rights => 26,
-        Refusal::Class => 27,
     }
 }
 

@@ -35,12 +35,12 @@ tells_le m n = record { holds = leb-true m n; passes = le-leb m n }
 
 tells_sound : (t : Task) → Tells (sound t) (Sound t)
 tells_sound t = record {
-  holds = λ e. let h = all.holds e in record { number_max = h.0; period_min = h.1.0; period_max = h.1.1.0; budget_min = h.1.1.1.0; budget_max = h.1.1.1.1.0; age_max = h.1.1.1.1.1.0; left_max = h.1.1.1.1.1.1.0; stroke_min = h.1.1.1.1.1.1.1.0; stroke_max = h.1.1.1.1.1.1.1.1.0; class_max = h.1.1.1.1.1.1.1.1.1 };
-  passes = λ h. all.passes (h.number_max, (h.period_min, (h.period_max, (h.budget_min, (h.budget_max, (h.age_max, (h.left_max, (h.stroke_min, (h.stroke_max, h.class_max)))))))));
+  holds = λ e. let h = all.holds e in record { number_max = h.0; period_min = h.1.0; period_max = h.1.1.0; budget_min = h.1.1.1.0; budget_max = h.1.1.1.1.0; age_max = h.1.1.1.1.1.0; left_max = h.1.1.1.1.1.1.0; stroke_min = h.1.1.1.1.1.1.1.0; stroke_max = h.1.1.1.1.1.1.1.1 };
+  passes = λ h. all.passes (h.number_max, (h.period_min, (h.period_max, (h.budget_min, (h.budget_max, (h.age_max, (h.left_max, (h.stroke_min, h.stroke_max))))))));
 }
   where
-    all : Tells (sound t) ((t.number ≤ 63) × ((1 ≤ t.period) × ((t.period ≤ 60000) × ((1 ≤ t.budget) × ((t.budget ≤ t.period) × ((t.age ≤ t.period) × ((t.left ≤ t.budget) × ((1 ≤ t.stroke) × ((t.stroke ≤ t.budget) × (t.class ≤ 2))))))))))
-    all = both (tells_le _ _) (both (tells_le _ _) (both (tells_le _ _) (both (tells_le _ _) (both (tells_le _ _) (both (tells_le _ _) (both (tells_le _ _) (both (tells_le _ _) (both (tells_le _ _) (tells_le _ _)))))))))
+    all : Tells (sound t) ((t.number ≤ 63) × ((1 ≤ t.period) × ((t.period ≤ 60000) × ((1 ≤ t.budget) × ((t.budget ≤ t.period) × ((t.age ≤ t.period) × ((t.left ≤ t.budget) × ((1 ≤ t.stroke) × (t.stroke ≤ t.budget)))))))))
+    all = both (tells_le _ _) (both (tells_le _ _) (both (tells_le _ _) (both (tells_le _ _) (both (tells_le _ _) (both (tells_le _ _) (both (tells_le _ _) (both (tells_le _ _) (tells_le _ _))))))))
 
 tells_distinct : (t u : Task) → Tells (distinct t u) (Distinct t u)
 unfolding distinct Distinct

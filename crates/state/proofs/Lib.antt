@@ -6,4 +6,3 @@ pub mod Outcomes
 pub mod Ticking
 pub mod Strokes
 pub mod Logs
-pub mod TwoRuns

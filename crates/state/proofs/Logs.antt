@@ -11,23 +11,37 @@ use lib.ListN.{length, drop, length-append, length-drop}
 use lib.Seq.{length-take-le, take_at}
 use Rattle.fit.specs.Lists.{Each}
 use Rattle.timing.specs.declared.Task.{Task}
-use Rattle.timing.specs.Calls.{Call, release, finish, tick, Answer, accepted, refused, answer_by, turn, State, answer, next, Entry, entry, log, run}
+use Rattle.timing.specs.Calls.{Call, release, finish, tick, Answer, accepted, refused, release_answer, finish_answer, answer_by, turn, State, answer, next, Entry, entry, log, run}
 use Rattle.timing.specs.Form.{Fresh}
 use Rattle.timing.specs.OnTime.{count, refused_with, is_refused, Ended}
 use Rattle.timing.specs.Serving.{nth, is_release, AgeCounts, LeftCounts}
 use Rattle.timing.specs.Strokes.{StateForm, TickGoes}
 use Rattle.timing.specs.Tasks.{released, finished, used}
-use Rattle.timing.proofs.Steps.{absent_cases, Release, is_unknown, is_barred, is_early, is_late, starts, release_view, Finish, cannot, may_not, is_quiet, ends, finish_view, changed_release, changed_finish, changed_tick, changed_answer, length_next}
-use Rattle.timing.proofs.Strokes.{state_form_kept}
+use Rattle.timing.proofs.Steps.{Release, is_early, is_late, starts, release_view, Finish, is_quiet, ends, finish_view, changed_named, changed_tick, changed_answer, length_next, refused_kept}
+use Rattle.timing.proofs.Strokes.{state_form_kept, stroke_kept}
 use Rattle.timing.proofs.First.{tick_goes_to}
 use Rattle.state.specs.declared.Core.{Core}
 use Rattle.state.specs.declared.Step.{Step}
 use Rattle.state.specs.State.{tasks_of, stroke_in, state_in, with_state, InForm, foreign}
 use Rattle.state.specs.Operations.{ask, step, Operation, Unaltered, Serves}
 use Rattle.state.proofs.Foreign.{foreign_form, form_foreign}
-use Rattle.state.proofs.Outcomes.{refused_unaltered}
+use Rattle.state.proofs.Outcomes.{same_state}
 use Rattle.timing.proofs.Age as timing-age
 use Rattle.timing.proofs.Left as timing-left
+
+-- a refused call changes no task and no stroke
+state_kept : (c : Call) (s : State) (n p : ℕ) → answer c s ≡ refused n p → next c s ≡ s
+unfolding answer next
+state_kept c s n p e = λ i. record { tasks = refused_kept (turn s.stroke) c s.tasks n p e i; stroke = stroke_kept c s n p e i }
+
+-- A refused call hands the state back as given.
+pub refused_unaltered : (c : Call) (s : Core) (n p : ℕ) → ask c s ≡ refused n p → step c s ≡ s
+unfolding ask step
+refused_unaltered c s n p e = by (foreign s) e
+  where
+    by : (b : Bool) → cond b (refused 21 0) (answer c (state_in s)) ≡ refused n p → cond b s (with_state s (next c (state_in s))) ≡ s
+    by true x = refl
+    by false x = ap (with_state s) (state_kept c (state_in s) n p x) ∙ same_state s
 
 -- One call on a state in form: it answers what timing's state answers, and the next state is the next one of timing.
 pub ask_form : (c : Call) (s : Core) → InForm s → ask c s ≡ answer c (state_in s)
@@ -76,19 +90,15 @@ ask_run c cs s places f = ask_form c (run step s cs) (run_in_form cs s places f)
 -- no call is answered with 21 by timing's state
 not_foreign : (c : Call) (s : State) → refused_with 21 (answer c s) ≡ false
 unfolding answer answer_by refused_with
-not_foreign (release v j) s = changed_answer (λ a. refused_with 21 a ≡ false) (absent_cases (λ a. refused_with 21 a ≡ false) v refl refl) (λ i. go (release_view v (nth s.tasks i))) (changed_release (turn s.stroke) v j s.tasks)
+not_foreign (release j) s = changed_answer (λ a. refused_with 21 a ≡ false) refl (λ i. go (release_view (nth s.tasks i))) (changed_named j released release_answer s.tasks)
   where
-    go : {t t' : Task} {a : Answer} → Release v t a t' → refused_with 21 a ≡ false
-    go (is_unknown x) = refl
-    go (is_barred x) = refl
+    go : {t t' : Task} {a : Answer} → Release t a t' → refused_with 21 a ≡ false
     go (is_early x) = refl
     go (is_late x y) = refl
     go (starts x y) = refl
-not_foreign (finish v j) s = changed_answer (λ a. refused_with 21 a ≡ false) (absent_cases (λ a. refused_with 21 a ≡ false) v refl refl) (λ i. go (finish_view v (nth s.tasks i))) (changed_finish (turn s.stroke) v j s.tasks)
+not_foreign (finish j) s = changed_answer (λ a. refused_with 21 a ≡ false) refl (λ i. go (finish_view (nth s.tasks i))) (changed_named j finished finish_answer s.tasks)
   where
-    go : {t t' : Task} {a : Answer} → Finish v t a t' → refused_with 21 a ≡ false
-    go (cannot x) = refl
-    go (may_not x) = refl
+    go : {t t' : Task} {a : Answer} → Finish t a t' → refused_with 21 a ≡ false
     go (is_quiet x) = refl
     go (ends x) = refl
 not_foreign tick s = changed_answer (λ a. refused_with 21 a ≡ false) refl (λ i. refl) (changed_tick (turn s.stroke) used s.tasks)
@@ -118,5 +128,5 @@ pub left_counts : (s : Core) → length s.tasks ≡ 64 → InForm s → Each Fre
 left_counts s places f h cs = subst₂ LeftCounts (sym (log_form cs s places f)) (ap (λ u. u.tasks) (sym (run_form cs s places f))) (timing-left.left_counts (state_in s) f.form.tasks h cs)
 
 -- after the last accepted release of j its task has nothing left exactly when the job has ended
-pub pending_ended : (s : Core) → length s.tasks ≡ 64 → InForm s → Each Fresh (tasks_of s) → (cs : List Call) (before xs : List Entry) (v j : ℕ) → log ask step s cs ≡ before ++ entry (release v j) accepted ∷ xs → count (is_release j) xs ≡ 0 → Each (λ t. t.number ≡ j → (t.left ≡ 0) ↔ Ended t.budget j xs) (tasks_of (run step s cs))
-pending_ended s places f h cs before xs v j e y = subst (Each (λ t. t.number ≡ j → (t.left ≡ 0) ↔ Ended t.budget j xs)) (ap (λ u. u.tasks) (sym (run_form cs s places f))) (timing-left.pending_ended (state_in s) f.form.tasks h cs before xs v j (sym (log_form cs s places f) ∙ e) y)
+pub pending_ended : (s : Core) → length s.tasks ≡ 64 → InForm s → Each Fresh (tasks_of s) → (cs : List Call) (before xs : List Entry) (j : ℕ) → log ask step s cs ≡ before ++ entry (release j) accepted ∷ xs → count (is_release j) xs ≡ 0 → Each (λ t. t.number ≡ j → (t.left ≡ 0) ↔ Ended t.budget j xs) (tasks_of (run step s cs))
+pending_ended s places f h cs before xs j e y = subst (Each (λ t. t.number ≡ j → (t.left ≡ 0) ↔ Ended t.budget j xs)) (ap (λ u. u.tasks) (sym (run_form cs s places f))) (timing-left.pending_ended (state_in s) f.form.tasks h cs before xs j (sym (log_form cs s places f) ∙ e) y)

@@ -8,24 +8,23 @@ use native.Mathlib.Omega.{arith}
 use lib.ListN.{length, take, drop, set, take-append-drop, length-map, get_or-append, get_or-map}
 use lib.Seq.{get_or-take, length-take-le, take-set-lt, drop-set-lt, set-get_or, set-append_left}
 use lib.Dec.{ltb, eqb}
-use borrow.Author.Tests.{lt-ltb, le-ltb, le-leb, ltb-true, ltb-false}
+use borrow.Author.Tests.{lt-ltb, le-ltb, ltb-true, ltb-false}
 use mir.Val.{Fits}
 use mir.Syntax.{w64}
-use Rattle.sheet.specs.declared.Refusal.TheVariants.{Foreign, Class, Unlisted, Rights, Early, Late, Quiet}
+use Rattle.sheet.specs.declared.Refusal.TheVariants.{Foreign, Unlisted, Early, Late, Quiet}
 use Rattle.sheet.specs.declared.Refusal.{Refusal}
 use Rattle.sheet.specs.Refusals.{number_of}
 use Rattle.fit.specs.Lists.{place_of}
 use Rattle.timing.specs.declared.Task.{Task}
-use Rattle.timing.specs.Calls.{Call, Answer, by_class, by_rights, of_first, modify, answer_by, next_by, Stroke, State, no_stroke, stroke_of, turn, stroke_ticks, stroke_ticked, stroke_finished, next_stroke, answer, next, release, finish, tick, idle, accepted, served, refused, release_answer, finish_answer, tick_answer}
+use Rattle.timing.specs.Calls.{Call, Answer, of_first, modify, answer_by, next_by, Stroke, no_stroke, stroke_of, turn, stroke_ticks, stroke_ticked, stroke_finished, next_stroke, answer, next, release, finish, tick, idle, accepted, served, refused, release_answer, finish_answer, tick_answer}
 use Rattle.timing.specs.Serving.{no_task, nth}
-use Rattle.timing.specs.Tasks.{pending, early, named, allowed, with_job, released, finished, used, older}
+use Rattle.timing.specs.Tasks.{pending, early, named, with_job, released, finished, used, older}
 use Rattle.state.specs.declared.Core.{Core}
 use Rattle.state.specs.declared.Spot.{Spot}
 use Rattle.state.specs.declared.Spot.TheVariants.{At, Refused as Missing}
 use Rattle.state.specs.declared.Step.{Step}
 use Rattle.state.specs.declared.Answer.TheVariants.{Accepted, Served, Idle}
-use Rattle.timing.proofs.Steps.{turn_pends, refused_kept}
-use Rattle.timing.proofs.Strokes.{stroke_kept}
+use Rattle.timing.proofs.Steps.{turn_pends}
 use Rattle.state.specs.State.{tasks_of, stroke_in, state_in, with_state, foreign}
 use Rattle.state.specs.Operations.{refusal, ask, step, Operation, answer_of}
 use Rattle.state.specs.Steps.{spot, changed, with_stroke, acceptance}
@@ -102,31 +101,10 @@ pub record Untested (s : Core) (r : Step) : Type 0 where
   pub answer : answer_of r.answer ≡ answer tick (state_in s)
   pub core : r.core ≡ with_state s (next tick (state_in s))
 
--- a refused call changes no task and no stroke
-state_kept : (c : Call) (s : State) (n p : ℕ) → answer c s ≡ refused n p → next c s ≡ s
-unfolding answer next
-state_kept c s n p e = λ i. record { tasks = refused_kept (turn s.stroke) c s.tasks n p e i; stroke = stroke_kept c s n p e i }
-
--- A refused call hands the state back as given.
-pub refused_unaltered : (c : Call) (s : Core) (n p : ℕ) → ask c s ≡ refused n p → step c s ≡ s
-unfolding ask step
-refused_unaltered c s n p e = by (foreign s) e
-  where
-    by : (b : Bool) → cond b (refused 21 0) (answer c (state_in s)) ≡ refused n p → cond b s (with_state s (next c (state_in s))) ≡ s
-    by true x = refl
-    by false x = ap (with_state s) (state_kept c (state_in s) n p x) ∙ same_state s
-
-op_refused : (c : Call) (s : Core) (w : Refusal) (p : ℕ) (r : Step) → ask c s ≡ refused (number_of w) p → r ≡ refusal s w p → Operation c s r
-op_refused c s w p r e y = record { answer = ap (λ u. answer_of u.answer) y ∙ sym e; core = ap (λ u. u.core) y ∙ sym (refused_unaltered c s (number_of w) p e) }
-
 -- 21
 pub op_foreign : (c : Call) (s : Core) (r : Step) → true ≡ foreign s → r ≡ refusal s Foreign 0 → Operation c s r
 unfolding ask step
 op_foreign c s r e y = record { answer = rw (y, ← e); core = rw (y, ← e) }
-
-foreign_ask : (c : Call) (s : Core) → foreign s ≡ true → ask c s ≡ refused 21 0
-unfolding ask
-foreign_ask c s e = rw e
 
 -- a state of at most 64 tasks, whatever its fields hold
 module _ (s : Core) (most : s.count ≤ 64) (room : length s.tasks ≡ 64) where
@@ -194,11 +172,11 @@ module _ (s : Core) (b : Bool) (e : b ≡ foreign s) (x : b ≡ false) where
   pub count_max : s.count ≤ 64
   count_max = (foreign_form s (sym e ∙ x)).count
 
-  pub place_room : {i : ℕ} → i < s.count → i < 64
+  place_room : {i : ℕ} → i < s.count → i < 64
   place_room h = omega (arith, count_max)
 
-  -- the offset in bytes of a task of 12 bytes fits in 64 bits
-  pub offset_fits : {i : ℕ} → i < s.count → Fits w64 (i * 12)
+  -- the offset in bytes of a task of 10 bytes fits in 64 bits
+  offset_fits : {i : ℕ} → i < s.count → Fits w64 (i * 10)
   offset_fits h = omega (arith, count_max)
 
   -- what timing's state gives is what a tick of a state in form gives
@@ -214,151 +192,130 @@ module _ (s : Core) (b : Bool) (e : b ≡ foreign s) (x : b ≡ false) where
         core = z ∙ sym (native_step c ∙ ap (with_state s) (n ∙ ap (λ l. record { tasks = l; stroke = k }) ((hit s count_max room q i at h).changes g ∙ ap (λ t. set (tasks_of s) i (g t)) (task_at s count_max room q i at h))) ∙ one_changed s i _ k h);
       }
 
--- the place of a named task, as it is looked for by a caller of class v
-module _ (s : Core) (v j : ℕ) (b : Bool) (e : b ≡ foreign s) where
-  pub spot_foreign : b ≡ true → Missing Foreign ≡ spot s v j
+      -- a refusal of that task: task and stroke stay as they are
+      refusal_at : (c : Call) (f : Task → Answer) (d : Answer) (g : Task → Task) (k : Stroke) (w : Refusal) (r : Step) → answer c (state_in s) ≡ of_first q f d (tasks_of s) → next c (state_in s) ≡ record { tasks = modify q g (tasks_of s); stroke = k } → (Found q (tasks_of s) i → k ≡ stroke_in s) → i < s.count → f (nth s.tasks i) ≡ refused (number_of w) (nth s.tasks i).number → g (nth s.tasks i) ≡ nth s.tasks i → r ≡ refusal s w (nth s.tasks i).number → Operation c s r
+      refusal_at c f d g k w r p n t h y z v =
+          let same = t (hit s count_max room q i at h) in
+          operation c f d g k r p n h (ap (λ u. answer_of u.answer) v ∙ sym y) (ap (λ u. u.core) v ∙ state_is s s.count _ _ _ refl (sym (ap (set s.tasks i) z ∙ set-get_or s.tasks i no_task)) (sym (ap (λ u. u.task) same)) (sym (ap (λ u. u.left) same)))
+
+      -- 17: no task passes
+      unlisted : (c : Call) (f : Task → Answer) (g : Task → Task) (k : Stroke) (r : Step) → answer c (state_in s) ≡ of_first q f (refused 17 0) (tasks_of s) → next c (state_in s) ≡ record { tasks = modify q g (tasks_of s); stroke = k } → (Lacking q (tasks_of s) → k ≡ stroke_in s) → s.count ≤ i → r ≡ refusal s Unlisted 0 → Operation c s r
+      unlisted c f g k r p n t h v =
+          let m = miss s count_max room q i at h in
+          record { answer = ap (λ u. answer_of u.answer) v ∙ sym (native_ask c ∙ p ∙ m.answers f (refused 17 0)); core = ap (λ u. u.core) v ∙ sym (native_step c ∙ ap (with_state s) (n ∙ ap (λ l. record { tasks = l; stroke = k }) (m.changes g) ∙ ap (λ u. record { tasks = tasks_of s; stroke = u }) (t m)) ∙ same_state s) }
+
+-- the place of a named task, as it is looked for
+module _ (s : Core) (j : ℕ) (b : Bool) (e : b ≡ foreign s) where
+  pub spot_foreign : b ≡ true → Missing Foreign ≡ spot s j
   unfolding spot
   spot_foreign x = rw (← e, x)
 
-  module _ (x : b ≡ false) where
-    pub spot_class : 2 < v → Missing Class ≡ spot s v j
+  module _ (x : b ≡ false) (i : ℕ) (at : i ≡ place_of (named j) (tasks_of s)) where
+    pub spot_unlisted : s.count ≤ i → Missing Unlisted ≡ spot s j
     unfolding spot
-    spot_class h = rw (← e, x, lt-ltb 2 v h)
+    spot_unlisted h = rw (← e, x, ← at, le-ltb i s.count h)
 
-    module _ (known : v ≤ 2) (i : ℕ) (at : i ≡ place_of (named j) (tasks_of s)) where
-      pub spot_unlisted : s.count ≤ i → Missing Unlisted ≡ spot s v j
-      unfolding spot
-      spot_unlisted h = rw (← e, x, le-ltb 2 v known, ← at, le-ltb i s.count h)
-
-      module _ (h : i < s.count) where
-        pub spot_barred : (nth s.tasks i).class < v → Missing Rights ≡ spot s v j
-        unfolding spot
-        spot_barred k = rw (← e, x, le-ltb 2 v known, ← at, lt-ltb i s.count h, lt-ltb (nth s.tasks i).class v k)
-
-        pub spot_at : v ≤ (nth s.tasks i).class → At i ≡ spot s v j
-        unfolding spot
-        spot_at k = rw (← e, x, le-ltb 2 v known, ← at, lt-ltb i s.count h, le-ltb (nth s.tasks i).class v k)
-
--- what a call by class v on the task numbered j answers, where f is the answer to a caller that may act on it
-abbrev guarded_answer : (v j : ℕ) → (Task → Answer) → List Task → Answer
-guarded_answer v j f s = by_class v (of_first (named j) (λ t. by_rights v t (f t)) (refused 17 0) s)
+    pub spot_at : i < s.count → At i ≡ spot s j
+    unfolding spot
+    spot_at h = rw (← e, x, ← at, lt-ltb i s.count h)
 
 -- a call that names a task, which is not there or stands at a place
-module _ (s : Core) (v j : ℕ) (p : Spot) (q : p ≡ spot s v j) (room : length s.tasks ≡ 64) where
-  -- 21, 27, 17 and 26
-  absent : (c : Call) (f : Task → Answer) (w : Refusal) (r : Step) → answer c (state_in s) ≡ guarded_answer v j f (tasks_of s) → p ≡ Missing w → r ≡ refusal s w 0 → Operation c s r
-  unfolding spot by_class by_rights
-  absent c f w r a h k = op_refused c s w 0 r (by (foreign s) refl (ltb 2 v) refl (ltb i s.count) refl (ltb (nth s.tasks i).class v) refl (sym h ∙ q)) k
+module _ (s : Core) (j : ℕ) (p : Spot) (q : p ≡ spot s j) (room : length s.tasks ≡ 64) where
+  -- 21 and 17
+  absent : (c : Call) (f : Task → Answer) (g : Task → Task) (v : Stroke) (w : Refusal) (r : Step) → answer c (state_in s) ≡ of_first (named j) f (refused 17 0) (tasks_of s) → next c (state_in s) ≡ record { tasks = modify (named j) g (tasks_of s); stroke = v } → (Lacking (named j) (tasks_of s) → v ≡ stroke_in s) → p ≡ Missing w → r ≡ refusal s w 0 → Operation c s r
+  unfolding spot
+  absent c f g v w r a n t h k = by (foreign s) refl (sym h ∙ q)
     where
       i : ℕ
       i = place_of (named j) (tasks_of s)
 
-      plain : foreign s ≡ false → ask c s ≡ guarded_answer v j f (tasks_of s)
-      plain e = native_ask s (foreign s) refl e c ∙ a
+      inside : foreign s ≡ false → (b : Bool) → ltb i s.count ≡ b → Missing w ≡ cond b (At i) (Missing Unlisted) → Operation c s r
+      inside x true e z = absurd (let never : ◌≡◌ {A = ℕ} 0 1 = cc in omega arith)
+      inside x false e z =
+          let o : w ≡ Unlisted = cc in
+          unlisted s (foreign s) refl x room (named j) i refl c f g v r a n t (ltb-false i s.count e) (k ∙ ap (λ u. refusal s u 0) o)
 
-      by : (b : Bool) → foreign s ≡ b → (k : Bool) → ltb 2 v ≡ k → (l : Bool) → ltb i s.count ≡ l → (m : Bool) → ltb (nth s.tasks i).class v ≡ m → Missing w ≡ cond b (Missing Foreign) (cond k (Missing Class) (cond l (cond m (Missing Rights) (At i)) (Missing Unlisted))) → ask c s ≡ refused (number_of w) 0
-      by true e k f l g m h z = foreign_ask c s e ∙ ap (λ u. refused (number_of u) 0) (let o : Foreign ≡ w = cc in o)
-      by false e true x l g m h z = plain e ∙ rw x (ap (λ u. refused (number_of u) 0) (let o : Class ≡ w = cc in o))
-      by false e false x false g m h z = plain e ∙ rw x ((miss s (count_max s (foreign s) refl e) room (named j) i refl (ltb-false i s.count g)).answers _ (refused 17 0) ∙ ap (λ u. refused (number_of u) 0) (let o : Unlisted ≡ w = cc in o))
-      by false e false x true g true h z =
-          let most = count_max s (foreign s) refl e in
-          let lt = ltb-true i s.count g in
-          plain e ∙ rw x ((hit s most room (named j) i refl lt).answers _ (refused 17 0) ∙ ap (λ t. by_rights v t (f t)) (task_at s most room (named j) i refl lt) ∙ rw h (ap (λ u. refused (number_of u) 0) (let o : Rights ≡ w = cc in o)))
-      by false e false x true g false h z = absurd (let never : ◌≡◌ {A = ℕ} 0 1 = cc in omega arith)
+      by : (b : Bool) → foreign s ≡ b → Missing w ≡ cond b (Missing Foreign) (cond (ltb i s.count) (At i) (Missing Unlisted)) → Operation c s r
+      by true e z =
+          let o : w ≡ Foreign = cc in
+          op_foreign c s r (sym e) (k ∙ ap (λ u. refusal s u 0) o)
+      by false e z = inside e (ltb i s.count) refl z
 
-  pub release_absent : (w : Refusal) (r : Step) → p ≡ Missing w → r ≡ refusal s w 0 → Operation (release v j) s r
-  unfolding answer answer_by release_answer
-  release_absent w r h k = absent (release v j) (λ t. cond (early t) (refused 18 t.number) (cond (pending t) (refused 19 t.number) accepted)) w r refl h k
+  pub release_absent : (w : Refusal) (r : Step) → p ≡ Missing w → r ≡ refusal s w 0 → Operation (release j) s r
+  unfolding answer next answer_by next_by next_stroke
+  release_absent w r h k = absent (release j) release_answer released (stroke_in s) w r refl refl (λ m. refl) h k
 
-  pub finish_absent : (w : Refusal) (r : Step) → p ≡ Missing w → r ≡ refusal s w 0 → Operation (finish v j) s r
-  unfolding answer answer_by finish_answer
-  finish_absent w r h k = absent (finish v j) (λ t. cond (pending t) accepted (refused 20 t.number)) w r refl h k
+  pub finish_absent : (w : Refusal) (r : Step) → p ≡ Missing w → r ≡ refusal s w 0 → Operation (finish j) s r
+  unfolding answer next answer_by next_by next_stroke
+  finish_absent w r h k = absent (finish j) finish_answer finished (next_stroke (finish j) (state_in s)) w r refl refl (λ m. m.answers (stroke_finished (stroke_in s)) (stroke_in s)) h k
 
   module _ (i : ℕ) (h : p ≡ At i) where
-    -- the caller may act on the task there
-    record There : Type 0 where
-      sound : foreign s ≡ false
-      known : v ≤ 2
-      place : i ≡ place_of (named j) (tasks_of s)
-      inside : i < s.count
-      right : v ≤ (nth s.tasks i).class
-
-    there : There
+    there : (foreign s ≡ false) × (i ≡ place_of (named j) (tasks_of s)) × (i < s.count)
     unfolding spot
-    there = by (foreign s) refl (ltb 2 v) refl (ltb n s.count) refl (ltb (nth s.tasks n).class v) refl (sym h ∙ q)
+    there = by (foreign s) refl (sym h ∙ q)
       where
         n : ℕ
         n = place_of (named j) (tasks_of s)
 
-        by : (b : Bool) → foreign s ≡ b → (k : Bool) → ltb 2 v ≡ k → (l : Bool) → ltb n s.count ≡ l → (m : Bool) → ltb (nth s.tasks n).class v ≡ m → At i ≡ cond b (Missing Foreign) (cond k (Missing Class) (cond l (cond m (Missing Rights) (At n)) (Missing Unlisted))) → There
-        by false e false x true g false y z =
+        inside : foreign s ≡ false → (b : Bool) → ltb n s.count ≡ b → At i ≡ cond b (At n) (Missing Unlisted) → (foreign s ≡ false) × (i ≡ n) × (i < s.count)
+        inside x true e z =
             let o : i ≡ n = cc in
-            record { sound = e; known = ltb-false 2 v x; place = o; inside = rw o (ltb-true n s.count g); right = rw o (ltb-false (nth s.tasks n).class v y) }
-        by true e k x l g m y z = absurd (let never : ◌≡◌ {A = ℕ} 0 1 = cc in omega arith)
-        by false e true x l g m y z = absurd (let never : ◌≡◌ {A = ℕ} 0 1 = cc in omega arith)
-        by false e false x false g m y z = absurd (let never : ◌≡◌ {A = ℕ} 0 1 = cc in omega arith)
-        by false e false x true g true y z = absurd (let never : ◌≡◌ {A = ℕ} 0 1 = cc in omega arith)
+            (x, o, rw o (ltb-true n s.count e))
+        inside x false e z = absurd (let never : ◌≡◌ {A = ℕ} 0 1 = cc in omega arith)
 
-    most : s.count ≤ 64
-    most = count_max s (foreign s) refl there.sound
+        by : (b : Bool) → foreign s ≡ b → At i ≡ cond b (Missing Foreign) (cond (ltb n s.count) (At n) (Missing Unlisted)) → (foreign s ≡ false) × (i ≡ n) × (i < s.count)
+        by true e z = absurd (let never : ◌≡◌ {A = ℕ} 0 1 = cc in omega arith)
+        by false e z = inside e (ltb n s.count) refl z
 
     pub spot_room : i < 64
-    spot_room = place_room s (foreign s) refl there.sound there.inside
+    spot_room = place_room s (foreign s) refl there.0 there.2
 
-    pub spot_fits : Fits w64 (i * 12)
-    spot_fits = offset_fits s (foreign s) refl there.sound there.inside
+    pub spot_fits : Fits w64 (i * 10)
+    spot_fits = offset_fits s (foreign s) refl there.0 there.2
+
+    -- a refusal of the task there, and a change of it
+    refused_there : (c : Call) (f : Task → Answer) (g : Task → Task) (v : Stroke) (w : Refusal) (r : Step) → answer c (state_in s) ≡ of_first (named j) f (refused 17 0) (tasks_of s) → next c (state_in s) ≡ record { tasks = modify (named j) g (tasks_of s); stroke = v } → (Found (named j) (tasks_of s) i → v ≡ stroke_in s) → f (nth s.tasks i) ≡ refused (number_of w) (nth s.tasks i).number → g (nth s.tasks i) ≡ nth s.tasks i → r ≡ refusal s w (nth s.tasks i).number → Operation c s r
+    refused_there c f g v w r a n t y z k = refusal_at s (foreign s) refl there.0 room (named j) i there.1 c f (refused 17 0) g v w r a n t there.2 y z k
+
+    changed_there : (c : Call) (f : Task → Answer) (g : Task → Task) (v : Stroke) (r : Step) (z : Core) (u : Task) → answer c (state_in s) ≡ of_first (named j) f (refused 17 0) (tasks_of s) → next c (state_in s) ≡ record { tasks = modify (named j) g (tasks_of s); stroke = v } → accepted ≡ f (nth s.tasks i) → u ≡ g (nth s.tasks i) → z ≡ with_stroke s v → r ≡ acceptance z i u → Operation c s r
+    changed_there c f g v r z u a n y e x k = operation s (foreign s) refl there.0 room (named j) i there.1 c f (refused 17 0) g v r a n there.2 (ap (λ w. answer_of w.answer) k ∙ y) (ap (λ w. w.core) k ∙ ap (λ w. changed w i u) x ∙ ap (λ t. with_stroke (changed s i t) v) e)
 
     -- the task there, as it stands among the state's tasks
     here : nth (tasks_of s) i ≡ nth s.tasks i
-    here = task_at s most room (named j) i there.place there.inside
-
-    -- the caller may act on it
-    allows : allowed v (nth s.tasks i) ≡ true
-    unfolding allowed
-    allows = rw (le-leb v 2 there.known, le-leb v (nth s.tasks i).class there.right)
-
-    by_known : (a : Answer) → by_class v a ≡ a
-    unfolding by_class
-    by_known a = rw (le-ltb 2 v there.known)
-
-    by_right : (a : Answer) → by_rights v (nth s.tasks i) a ≡ a
-    unfolding by_rights
-    by_right a = rw (le-ltb (nth s.tasks i).class v there.right)
-
-    -- what it answers, a refusal of it, and a change of it
-    asked : (c : Call) (f : Task → Answer) → answer c (state_in s) ≡ by_class v (of_first (named j) f (refused 17 0) (tasks_of s)) → ask c s ≡ f (nth s.tasks i)
-    asked c f a = native_ask s (foreign s) refl there.sound c ∙ a ∙ by_known _ ∙ (hit s most room (named j) i there.place there.inside).answers f (refused 17 0) ∙ ap f here
-
-    changed_there : (c : Call) (f : Task → Answer) (g : Task → Task) (u : Stroke) (r : Step) (z : Core) (t : Task) → answer c (state_in s) ≡ by_class v (of_first (named j) f (refused 17 0) (tasks_of s)) → next c (state_in s) ≡ record { tasks = modify (named j) g (tasks_of s); stroke = u } → accepted ≡ f (nth s.tasks i) → t ≡ g (nth s.tasks i) → z ≡ with_stroke s u → r ≡ acceptance z i t → Operation c s r
-    changed_there c f g u r z t a n y e x k = operation s (foreign s) refl there.sound room (named j) i there.place c f (refused 17 0) g u r (a ∙ by_known _) n there.inside (ap (λ w. answer_of w.answer) k ∙ y) (ap (λ w. w.core) k ∙ ap (λ w. changed w i t) x ∙ ap (λ w. with_stroke (changed s i w) u) e)
+    here = task_at s (count_max s (foreign s) refl there.0) room (named j) i there.1 there.2
 
     -- 18, 19, and a job that starts
-    pub release_early : (r : Step) → (nth s.tasks i).age < (nth s.tasks i).period → r ≡ refusal s Early (nth s.tasks i).number → Operation (release v j) s r
-    unfolding answer answer_by release_answer early
-    release_early r a k = op_refused (release v j) s Early (nth s.tasks i).number r (asked (release v j) (release_answer v) refl ∙ by_right _ ∙ rw (lt-ltb _ _ a)) k
+    pub release_early : (r : Step) → (nth s.tasks i).age < (nth s.tasks i).period → r ≡ refusal s Early (nth s.tasks i).number → Operation (release j) s r
+    unfolding answer next answer_by next_by next_stroke release_answer released early
+    release_early r a k =
+        let y = lt-ltb _ _ a in
+        refused_there (release j) release_answer released (stroke_in s) Early r refl refl (λ m. refl) (rw y) (rw y) k
 
-    pub release_late : (r : Step) → (nth s.tasks i).period ≤ (nth s.tasks i).age → 0 < (nth s.tasks i).left → r ≡ refusal s Late (nth s.tasks i).number → Operation (release v j) s r
-    unfolding answer answer_by release_answer early pending
-    release_late r a l k = op_refused (release v j) s Late (nth s.tasks i).number r (asked (release v j) (release_answer v) refl ∙ by_right _ ∙ rw (le-ltb _ _ a, lt-ltb _ _ l)) k
-
-    pub release_starts : (t : Task) (r : Step) → (nth s.tasks i).period ≤ (nth s.tasks i).age → (nth s.tasks i).left ≤ 0 → t ≡ with_job (nth s.tasks i) 0 (nth s.tasks i).budget → r ≡ acceptance s i t → Operation (release v j) s r
+    pub release_late : (r : Step) → (nth s.tasks i).period ≤ (nth s.tasks i).age → 0 < (nth s.tasks i).left → r ≡ refusal s Late (nth s.tasks i).number → Operation (release j) s r
     unfolding answer next answer_by next_by next_stroke release_answer released early pending
-    release_starts t r a l e k =
+    release_late r a l k =
+        let y = le-ltb _ _ a in
+        let z = lt-ltb _ _ l in
+        refused_there (release j) release_answer released (stroke_in s) Late r refl refl (λ m. refl) (rw (y, z)) (rw (y, z)) k
+
+    pub release_starts : (u : Task) (r : Step) → (nth s.tasks i).period ≤ (nth s.tasks i).age → (nth s.tasks i).left ≤ 0 → u ≡ with_job (nth s.tasks i) 0 (nth s.tasks i).budget → r ≡ acceptance s i u → Operation (release j) s r
+    unfolding answer next answer_by next_by next_stroke release_answer released early pending
+    release_starts u r a l e k =
         let y = le-ltb _ _ a in
         let z = le-ltb _ _ l in
-        changed_there (release v j) (release_answer v) (released v) (stroke_in s) r s t refl refl (sym (by_right _ ∙ rw (y, z))) (rw (e, allows, y, z)) refl k
+        changed_there (release j) release_answer released (stroke_in s) r s u refl refl (rw (y, z)) (rw (e, y, z)) refl k
 
     -- 20, and a job that ends, with its stroke
-    pub finish_quiet : (r : Step) → (nth s.tasks i).left ≡ 0 → r ≡ refusal s Quiet (nth s.tasks i).number → Operation (finish v j) s r
-    unfolding answer answer_by finish_answer pending
+    pub finish_quiet : (r : Step) → (nth s.tasks i).left ≡ 0 → r ≡ refusal s Quiet (nth s.tasks i).number → Operation (finish j) s r
+    unfolding answer next answer_by next_by next_stroke finish_answer finished pending
     finish_quiet r l k =
         let z : ltb 0 (nth s.tasks i).left ≡ false = le-ltb 0 (nth s.tasks i).left (omega arith) in
-        op_refused (finish v j) s Quiet (nth s.tasks i).number r (asked (finish v j) (finish_answer v) refl ∙ by_right _ ∙ rw z) k
+        refused_there (finish j) finish_answer finished (next_stroke (finish j) (state_in s)) Quiet r refl refl (λ m. m.answers (stroke_finished (stroke_in s)) (stroke_in s) ∙ ap (stroke_finished (stroke_in s)) here ∙ rw z) (rw z) (rw z) k
 
-    pub finish_ends : (t : Task) (z : Core) (r : Step) → ((nth s.tasks i).left ≡ 0 → ⊥) → t ≡ with_job (nth s.tasks i) (nth s.tasks i).age 0 → z ≡ with_stroke s (cond (eqb s.stroke_task (nth s.tasks i).number) no_stroke (stroke_in s)) → r ≡ acceptance z i t → Operation (finish v j) s r
+    pub finish_ends : (u : Task) (v : Core) (r : Step) → ((nth s.tasks i).left ≡ 0 → ⊥) → u ≡ with_job (nth s.tasks i) (nth s.tasks i).age 0 → v ≡ with_stroke s (cond (eqb s.stroke_task (nth s.tasks i).number) no_stroke (stroke_in s)) → r ≡ acceptance v i u → Operation (finish j) s r
     unfolding answer next answer_by next_by next_stroke finish_answer finished pending
-    finish_ends t z r l e x k =
-        let y : ltb 0 (nth s.tasks i).left ≡ true = lt-ltb 0 (nth s.tasks i).left (omega (arith, l)) in
-        let m = hit s most room (named j) i there.place there.inside in
-        let own : next_stroke (finish v j) (state_in s) ≡ cond (eqb s.stroke_task (nth s.tasks i).number) no_stroke (stroke_in s) = m.answers (stroke_finished v (stroke_in s)) (stroke_in s) ∙ ap (stroke_finished v (stroke_in s)) here ∙ rw (allows, y) in
-        changed_there (finish v j) (finish_answer v) (finished v) (next_stroke (finish v j) (state_in s)) r z t refl refl (sym (by_right _ ∙ rw y)) (rw (e, allows, y)) (x ∙ sym (ap (with_stroke s) own)) k
+    finish_ends u v r l e x k =
+        let z : ltb 0 (nth s.tasks i).left ≡ true = lt-ltb 0 (nth s.tasks i).left (omega (arith, l)) in
+        let m = hit s (count_max s (foreign s) refl there.0) room (named j) i there.1 there.2 in
+        let own : next_stroke (finish j) (state_in s) ≡ cond (eqb s.stroke_task (nth s.tasks i).number) no_stroke (stroke_in s) = m.answers (stroke_finished (stroke_in s)) (stroke_in s) ∙ ap (stroke_finished (stroke_in s)) here ∙ rw z in
+        changed_there (finish j) finish_answer finished (next_stroke (finish j) (state_in s)) r v u refl refl (rw z) (rw (e, z)) (x ∙ sym (ap (with_stroke s) own)) k

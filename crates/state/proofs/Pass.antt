@@ -57,10 +57,9 @@ pub record Bounded (t : Task) : Type 0 where
   pub budget_max : t.budget ≤ t.period
   pub age_max : t.age ≤ t.period
   pub left_max : t.left ≤ t.budget
-  pub class_max : t.class ≤ 2
 
-fails_breaks : (last : ℕ) (t : Task) → Fails (breaks last t) ((last < rank t) × ((1 ≤ t.stroke) × ((t.stroke ≤ t.budget) × ((t.budget ≤ t.period) × ((t.age ≤ t.period) × ((t.left ≤ t.budget) × (t.class ≤ 2)))))))
-fails_breaks last t = fails_both (fails_le _ _) (fails_both (fails_lt _ _) (fails_both (fails_lt _ _) (fails_both (fails_lt _ _) (fails_both (fails_lt _ _) (fails_both (fails_lt _ _) (fails_lt _ _))))))
+fails_breaks : (last : ℕ) (t : Task) → Fails (breaks last t) ((last < rank t) × ((1 ≤ t.stroke) × ((t.stroke ≤ t.budget) × ((t.budget ≤ t.period) × ((t.age ≤ t.period) × (t.left ≤ t.budget))))))
+fails_breaks last t = fails_both (fails_le _ _) (fails_both (fails_lt _ _) (fails_both (fails_lt _ _) (fails_both (fails_lt _ _) (fails_both (fails_lt _ _) (fails_lt _ _)))))
 
 -- a stroke without ticks left has number 0
 fails_none : (j r : ℕ) → Fails (eqb r 0 && ltb 0 j) (r ≡ 0 → j ≡ 0)
@@ -74,7 +73,7 @@ fails_ends : (j r : ℕ) (p : Pass) (n : ℕ) → Fails (ends_foreign j r p n) (
 fails_ends j r p n = fails_both (fails_lt _ _) (fails_both (fails_lt _ _) (fails_both (fails_lt _ _) (fails_both (fails_lt _ _) (fails_none j r))))
 
 -- the test and the step of the pass as the code makes them
-pub breaks_is : (here last : ℕ) (t : Task) → here ≡ rank t → (leb here last || (ltb t.stroke 1 || (ltb t.budget t.stroke || (ltb t.period t.budget || (ltb t.period t.age || (ltb t.budget t.left || ltb 2 t.class)))))) ≡ breaks last t
+pub breaks_is : (here last : ℕ) (t : Task) → here ≡ rank t → (leb here last || (ltb t.stroke 1 || (ltb t.budget t.stroke || (ltb t.period t.budget || (ltb t.period t.age || ltb t.budget t.left))))) ≡ breaks last t
 breaks_is here last t e = rw e
 
 module _ (j r i : ℕ) (p : Pass) (t : Task) (here b : ℕ) (e : here ≡ rank t) (f : b ≡ 2 ^ (t.number % 64)) where
@@ -218,7 +217,7 @@ module _ (old : List Task) (t : Task) where
     passed_turn e =
         let h = (fails_breaks p.last t).holds e in
         record {
-          bounded = each_append Bounded old (t ∷ []) s.bounded (record { stroke_min = h.1.0; stroke_max = h.1.1.0; budget_max = h.1.1.1.0; age_max = h.1.1.1.1.0; left_max = h.1.1.1.1.1.0; class_max = h.1.1.1.1.1.1 }, tt);
+          bounded = each_append Bounded old (t ∷ []) s.bounded (record { stroke_min = h.1.0; stroke_max = h.1.1.0; budget_max = h.1.1.1.0; age_max = h.1.1.1.1.0; left_max = h.1.1.1.1.1 }, tt);
           rising = pairs_append (λ u v. rank u < rank v) old (t ∷ []) s.rising (tt, tt) (each_of old (λ u k. (omega (arith, h.0, k), tt)) s.ranked);
           ranked = each_append (λ u. rank u ≤ rank t) old (t ∷ []) (each_of old (λ u k. omega (arith, h.0, k)) s.ranked) (omega arith, tt);
           latest = inr (length old, omega (arith, more), ap rank behind);
@@ -239,7 +238,7 @@ module _ (old : List Task) (t : Task) where
         let before : Each (λ u. Above u t) old = pairs_before Above old t [] f.ordered in
         let later : Each (λ u. rank u < rank t) old = each_both old (λ u a b. above_rank u t a.number_max b) sounds.0 before in
         let after : p.last < rank t = ⊎_elim (λ z. omega (arith, own.period_min)) (λ k. omega (arith, k.2, each_at (λ u. rank u < rank t) no_task old k.0 k.1 later)) s.latest in
-        true≢false (sym e ∙ (fails_breaks p.last t).fails (after, (own.stroke_min, (own.stroke_max, (own.budget_max, (own.age_max, (own.left_max, own.class_max)))))))
+        true≢false (sym e ∙ (fails_breaks p.last t).fails (after, (own.stroke_min, (own.stroke_max, (own.budget_max, (own.age_max, own.left_max))))))
 
 -- the end of the pass: it tells whether the tasks and the stroke are in form
 module _ (j r : ℕ) (old : List Task) (p : Pass) (s : Passed j r old p) where
@@ -258,7 +257,7 @@ module _ (j r : ℕ) (old : List Task) (p : Pass) (s : Passed j r old p) where
       let ranges : Each (λ u. (u.number ≤ 63) × (u.period ≤ 60000)) old = each_both old (λ u a b. (a, b)) low short in
       record {
         count = room;
-        sound = each_both old (λ u a c. record { number_max = a.0; period_min = omega (arith, c.stroke_min, c.stroke_max, c.budget_max); period_max = a.1; budget_min = omega (arith, c.stroke_min, c.stroke_max); budget_max = c.budget_max; age_max = c.age_max; left_max = c.left_max; stroke_min = c.stroke_min; stroke_max = c.stroke_max; class_max = c.class_max }) ranges s.bounded;
+        sound = each_both old (λ u a c. record { number_max = a.0; period_min = omega (arith, c.stroke_min, c.stroke_max, c.budget_max); period_max = a.1; budget_min = omega (arith, c.stroke_min, c.stroke_max); budget_max = c.budget_max; age_max = c.age_max; left_max = c.left_max; stroke_min = c.stroke_min; stroke_max = c.stroke_max }) ranges s.bounded;
         distinct = pairs_of old (λ u v a b d x. d (ap (λ n. n % 64) x)) low (s.seen.apart h.1.1.0);
         ordered = pairs_of old (λ u v a b r. rank_above u v a b r) low s.rising;
       }

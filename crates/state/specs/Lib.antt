@@ -1,4 +1,3 @@
 pub mod State
 pub mod Operations
 pub mod Steps
-pub mod TwoRuns

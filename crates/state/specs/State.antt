@@ -32,7 +32,7 @@ pub record InForm (s : Core) : Type 0 where
 -- The same as a test, from here on. A task's own fields are in range:
 abbrev pub sound : Task → Bool
 sound t =
-    leb t.number 63 && (leb 1 t.period && (leb t.period 60000 && (leb 1 t.budget && (leb t.budget t.period && (leb t.age t.period && (leb t.left t.budget && (leb 1 t.stroke && (leb t.stroke t.budget && leb t.class 2))))))))
+    leb t.number 63 && (leb 1 t.period && (leb t.period 60000 && (leb 1 t.budget && (leb t.budget t.period && (leb t.age t.period && (leb t.left t.budget && (leb 1 t.stroke && leb t.stroke t.budget)))))))
 
 -- two tasks have different numbers
 unfoldable pub distinct : Task → Task → Bool

@@ -1,13 +1,12 @@
 -- What the code's own steps ask and give; no public contract speaks of it.
-use Rattle.std.specs.Prelude.{ℕ, ◌+◌, ◌-◌, ◌*◌, ◌/◌, ◌%◌, ◌^◌, min, Bool, cond, ◌&&◌, ◌||◌, get_or, set, ltb, leb, eqb}
+use Rattle.std.specs.Prelude.{ℕ, ◌+◌, ◌-◌, ◌*◌, ◌/◌, ◌%◌, ◌^◌, min, Bool, cond, ◌&&◌, ◌||◌, set, ltb, leb, eqb}
 use Rattle.std.specs.Int.Bits.{bit_or}
 use Rattle.std.specs.Int.Count.{ones}
-use Rattle.sheet.specs.declared.Refusal.TheVariants.{Foreign, Class, Unlisted, Rights}
+use Rattle.sheet.specs.declared.Refusal.TheVariants.{Foreign, Unlisted}
 use Rattle.fit.specs.Lists.{place_of}
 use Rattle.timing.specs.declared.Task.{Task}
 use Rattle.timing.specs.Tasks.{named}
 use Rattle.timing.specs.Calls.{Stroke}
-use Rattle.timing.specs.Serving.{no_task}
 use Rattle.state.specs.declared.Core.{Core}
 use Rattle.state.specs.declared.form.Pass.{Pass}
 use Rattle.state.specs.declared.Spot.{Spot}
@@ -25,10 +24,10 @@ abbrev pub most_left : Task → ℕ
 most_left t = min (t.stroke - 1) t.left
 
 -- A pass over a state's tasks shows whether its form is broken. Task by task: its rank is not above that of the task before, or its stroke
--- length, budget, age, ticks left or class are out of range; a stroke length of 1 to the budget leaves no budget of 0.
+-- length, budget, age or ticks left are out of range; a stroke length of 1 to the budget leaves no budget of 0.
 abbrev pub breaks : ℕ → Task → Bool
 breaks last t =
-    leb (rank t) last || (ltb t.stroke 1 || (ltb t.budget t.stroke || (ltb t.period t.budget || (ltb t.period t.age || (ltb t.budget t.left || ltb 2 t.class)))))
+    leb (rank t) last || (ltb t.stroke 1 || (ltb t.budget t.stroke || (ltb t.period t.budget || (ltb t.period t.age || ltb t.budget t.left))))
 
 -- the pass after no task
 abbrev pub begun : Pass
@@ -49,11 +48,11 @@ abbrev pub ends_foreign : (j r : ℕ) → Pass → ℕ → Bool
 ends_foreign j r p n =
     ltb 63 p.numbers || (ltb 60000 (p.last / 64) || (ltb (ones p.seen) n || (ltb p.most r || (eqb r 0 && ltb 0 j))))
 
--- the place of the task with a number, for a caller of class v: 21, 27, 17, 26, else where it stands
-unfoldable pub spot : Core → (v j : ℕ) → Spot
-spot s v j =
+-- the place of the task with a number: 21, then 17, else where it stands
+unfoldable pub spot : Core → ℕ → Spot
+spot s j =
     let i : ℕ = place_of (named j) (tasks_of s) in
-    cond (foreign s) (Missing Foreign) (cond (ltb 2 v) (Missing Class) (cond (ltb i s.count) (cond (ltb (get_or s.tasks i no_task).class v) (Missing Rights) (At i)) (Missing Unlisted)))
+    cond (foreign s) (Missing Foreign) (cond (ltb i s.count) (At i) (Missing Unlisted))
 
 -- the state with another task at a place, and with another stroke
 abbrev pub changed : Core → ℕ → Task → Core

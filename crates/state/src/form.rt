@@ -67,8 +67,7 @@ pub(crate) fn breaks(pass: Pass, t: Task) -> bool
     (rank_of(t) <= pass.last)
         | ((stroke < 1)
             | ((t.budget < stroke)
-                | ((t.period < t.budget)
-                    | ((t.period < t.age) | ((t.budget < t.left) | (2 < t.class))))))
+                | ((t.period < t.budget) | ((t.period < t.age) | (t.budget < t.left)))))
 }
 
 // The pass after the next task, at place i, in a state whose stroke is of number `own` and has `left` ticks left.

@@ -63,23 +63,16 @@ fn first_named(core: Core, number: u64) -> usize
     i
 }
 
-// The place of the task with this number in a state, for a caller of this class: 21, 27, 17, 26, else where it stands.
-fn spot_of(core: Core, class: u64, number: u64) -> Spot
-    ensures { result ≡ spot core class number }
+// The place of the task with this number in a state: 21, then 17, else where it stands.
+fn spot_of(core: Core, number: u64) -> Spot
+    ensures { result ≡ spot core number }
 {
     if core.is_foreign() {
         return Spot::Refused(Refusal::Foreign);
     }
-    if 2 < class {
-        return Spot::Refused(Refusal::Class);
-    }
     let at = first_named(core, number);
     if core.count <= at {
         return Spot::Refused(Refusal::Unlisted);
-    }
-    let t = core.tasks[at];
-    if (t.class as u64) < class {
-        return Spot::Refused(Refusal::Rights);
     }
     Spot::At(at)
 }
@@ -95,7 +88,6 @@ fn with_job(t: Task, age: u16, left: u16) -> Task
         left,
         number: t.number,
         stroke: t.stroke,
-        class: t.class,
     }
 }
 
@@ -196,12 +188,12 @@ impl Core {
         form::ends_foreign(pass, count, own, left)
     }
 
-    // A caller of a class releases a job of the task: 21, 27, 17, 26, 18, 19, else age 0 and ticks left e.
-    pub fn release(self, class: u64, number: u64) -> Step
-        ensures operation { Operation (release class number) self result }
+    // A job of the task is released: 21, 17, 18, 19, else age 0 and ticks left e.
+    pub fn release(self, number: u64) -> Step
+        ensures operation { Operation (release number) self result }
         ensures refused_unaltered { Unaltered self result }
     {
-        let spot = spot_of(self, class, number);
+        let spot = spot_of(self, number);
         match spot {
             Spot::Refused(word) => refuse(self, word, 0),
             Spot::At(at) => {
@@ -217,12 +209,12 @@ impl Core {
         }
     }
 
-    // A caller of a class ends the task's job early: 21, 27, 17, 26, 20, else ticks left 0, and its stroke ends with it.
-    pub fn finish(self, class: u64, number: u64) -> Step
-        ensures operation { Operation (finish class number) self result }
+    // The task's job is ended early: 21, 17, 20, else ticks left 0, and its stroke ends with it.
+    pub fn finish(self, number: u64) -> Step
+        ensures operation { Operation (finish number) self result }
         ensures refused_unaltered { Unaltered self result }
     {
-        let spot = spot_of(self, class, number);
+        let spot = spot_of(self, number);
         match spot {
             Spot::Refused(word) => refuse(self, word, 0),
             Spot::At(at) => {

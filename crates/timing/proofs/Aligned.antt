@@ -9,18 +9,19 @@ use native.Mathlib.Nat.{mul-suc, mul-zero}
 use native.Mathlib.Omega.{arith}
 use lib.Dec.{eqb}
 use lib.ListN.{length}
-use borrow.Author.Tests.{ltb-false, eqb-true}
+use borrow.Author.Tests.{eqb-true}
 use Rattle.sheet.proofs.Ranges.{both}
 use Rattle.fit.specs.Lists.{Each, EachPair}
 use Rattle.fit.proofs.Lists.{each_of, each_both, each_all, each_at}
 use Rattle.timing.specs.declared.Task.{Task}
-use Rattle.timing.specs.Tasks.{pending, named, allowed, with_job, released, finished, used, older}
-use Rattle.timing.specs.Calls.{Call, release, finish, tick, Answer, modify, Stroke, no_stroke, stroke_of, turn, stroke_ticks, stroke_ticked, stroke_finished, State, next_stroke, next_by, next, run}
+use Rattle.timing.specs.Tasks.{pending, named, with_job, released, finished, used, older}
+use Rattle.timing.specs.Calls.{Call, release, finish, tick, Answer, refused, release_answer, modify, Stroke, no_stroke, stroke_of, turn, stroke_ticks, stroke_ticked, stroke_finished, State, next_stroke, next_by, next, run}
 use Rattle.timing.specs.Form.{Sound, Distinct}
 use Rattle.timing.specs.Serving.{nth, no_task}
 use Rattle.timing.specs.Strokes.{StrokeIs, StateForm}
 use Rattle.timing.proofs.Lists.{zero_or_pos, each_map}
-use Rattle.timing.proofs.Steps.{release_reply, absent_reply, released_cases, Changed, nowhere, here, later, changed, changed_release, changed_found, turn_pends, each_changed}
+use Rattle.timing.proofs.Steps.{released_cases, Changed, nowhere, here, later, changed, changed_named, changed_found, turn_pends, each_changed}
+use Rattle.timing.proofs.Left.{finish_done}
 use Rattle.timing.proofs.Strokes.{lasting, turn_named, turn_is, task_of, ticks_lasting, ticks_begun}
 
 -- the part of a stroke that the job of t was given, d ticks: where t is in the stroke k, it has left what it may have still; else none
@@ -109,53 +110,44 @@ aligned_tick k {k' = k'} (later {t} {s} {s'} e c) d f h = ((λ p. given_other k 
     new p o x (inr y) = each_at _ no_task s y.0 y.1 d.0 (x ∙ task_of (nth s y.0).number (stroke_ticks k.left (nth s y.0) - 1) y.4 o)
 
 -- a finish of a task ends its own stroke or leaves the stroke
-finish_cases : (P : Stroke → Type 0) (v : ℕ) (k : Stroke) (t : Task) → P k → (k.task ≡ t.number → P no_stroke) → P (stroke_finished v k t)
-finish_cases P v k t h n = go (allowed v t && (pending t && eqb k.task t.number)) refl
+finish_cases : (P : Stroke → Type 0) (k : Stroke) (t : Task) → P k → (k.task ≡ t.number → P no_stroke) → P (stroke_finished k t)
+finish_cases P k t h n = go (pending t && eqb k.task t.number) refl
   where
-    go : (b : Bool) → (allowed v t && (pending t && eqb k.task t.number)) ≡ b → P (cond b no_stroke k)
-    go true e = n (eqb-true k.task t.number (both (pending t) (eqb k.task t.number) (both (allowed v t) (pending t && eqb k.task t.number) e).1).1)
+    go : (b : Bool) → (pending t && eqb k.task t.number) ≡ b → P (cond b no_stroke k)
+    go true e = n (eqb-true k.task t.number (both (pending t) (eqb k.task t.number) e).1)
     go false e = h
 
--- of its own task it leaves nothing, or all as it is
-aligned_finished : (v : ℕ) (k : Stroke) (t : Task) → Aligned k t → Aligned (stroke_finished v k t) (finished v t)
-unfolding finished pending with_job
-aligned_finished v k t h = elim (allowed v t) as (λ b. Aligned (cond (b && (pending t && eqb k.task t.number)) no_stroke k) (cond b (cond (pending t) (with_job t t.age 0) t) t)) [ true ↦ done (pending t) refl _ | false ↦ h ]
-  where
-    done : (b : Bool) → pending t ≡ b → (k' : Stroke) → Aligned k' (cond b (with_job t t.age 0) t)
-    done true e k' = λ p. absurd (omega arith)
-    done false e k' = λ p. absurd (omega (arith, p, ltb-false 0 t.left e))
-
-aligned_finish : (v j : ℕ) (k : Stroke) {s s' : List Task} {k' : Stroke} → Changed (named j) (finished v) (stroke_finished v k) k s s' k' → EachPair Distinct s → Each (Aligned k) s → Each (Aligned k') s'
+aligned_finish : (j : ℕ) (k : Stroke) {s s' : List Task} {k' : Stroke} → Changed (named j) finished (stroke_finished k) k s s' k' → EachPair Distinct s → Each (Aligned k) s → Each (Aligned k') s'
 unfolding Each EachPair Distinct
-aligned_finish v j k nowhere d h = tt
-aligned_finish v j k (here {t} {s} e) d h = (
-  aligned_finished v k t h.0,
-  finish_cases (λ k'. Each (Aligned k') s) v k t h.1 (λ x. each_both s (λ u n a p. given_other k no_stroke u (λ o y. n (sym x ∙ sym y)) (λ o y. omega arith) (a p)) d.0 h.1),
+aligned_finish j k nowhere d h = tt
+aligned_finish j k (here {t} {s} e) d h = (
+  (λ p. absurd (omega (arith, finish_done t))),
+  finish_cases (λ k'. Each (Aligned k') s) k t h.1 (λ x. each_both s (λ u n a p. given_other k no_stroke u (λ o y. n (sym x ∙ sym y)) (λ o y. omega arith) (a p)) d.0 h.1),
 )
-aligned_finish v j k {k' = k'} (later {t} {s} e c) d h = (⊎_elim (λ x. subst (λ y. Aligned y t) (sym x) h.0) (λ x. subst (λ y. Aligned y t) (sym x.4) (finish_cases (λ y. Aligned y t) v k (nth s x.0) h.0 (λ y p. given_other k no_stroke t (λ o z. each_at _ no_task s x.0 x.1 d.0 (z ∙ y)) (λ o z. omega arith) (h.0 p)))) (changed_found c), aligned_finish v j k c d.1 h.1)
+aligned_finish j k {k' = k'} (later {t} {s} e c) d h = (⊎_elim (λ x. subst (λ y. Aligned y t) (sym x) h.0) (λ x. subst (λ y. Aligned y t) (sym x.4) (finish_cases (λ y. Aligned y t) k (nth s x.0) h.0 (λ y p. given_other k no_stroke t (λ o z. each_at _ no_task s x.0 x.1 d.0 (z ∙ y)) (λ o z. omega arith) (h.0 p)))) (changed_found c), aligned_finish j k c d.1 h.1)
 
 -- a new job was given nothing, and no stroke is its task's, since that one's is pending
-aligned_release : (v : ℕ) (k : Stroke) (t : Task) → (0 < k.left → t.number ≡ k.task → 0 < t.left) → Aligned k t → Aligned k (released v t)
+aligned_release : (k : Stroke) (t : Task) → (0 < k.left → t.number ≡ k.task → 0 < t.left) → Aligned k t → Aligned k (released t)
 unfolding with_job
-aligned_release v k t w a = released_cases (Aligned k) v t a (λ old z p. record { m = 0; d = 0; all = omega (arith, mul-zero t.stroke); part = outside (λ o x. omega (arith, w o x)) refl })
+aligned_release k t w a = released_cases (Aligned k) t a (λ old z p. record { m = 0; d = 0; all = omega (arith, mul-zero t.stroke); part = outside (λ o x. omega (arith, w o x)) refl })
 
 part_older : (k : Stroke) (t : Task) (d : ℕ) → Part k t d → Part k (older t) d
 unfolding older with_job
 part_older k t d (inside a b x y) = inside a b x y
 part_older k t d (outside a x) = outside a x
 
-released_all : (v j : ℕ) (k : Stroke) {s s' : List Task} {a : Answer} → Changed (named j) (released v) (release_reply v) (absent_reply v) s s' a → Each (λ t. 0 < k.left → t.number ≡ k.task → 0 < t.left) s → Each (Aligned k) s → Each (Aligned k) s'
+released_all : (j : ℕ) (k : Stroke) {s s' : List Task} {a : Answer} → Changed (named j) released release_answer (refused 17 0) s s' a → Each (λ t. 0 < k.left → t.number ≡ k.task → 0 < t.left) s → Each (Aligned k) s → Each (Aligned k) s'
 unfolding Each
-released_all v j k nowhere w h = tt
-released_all v j k (here {t} e) w h = (aligned_release v k t w.0 h.0, h.1)
-released_all v j k (later e c) w h = (h.0, released_all v j k c w.1 h.1)
+released_all j k nowhere w h = tt
+released_all j k (here {t} e) w h = (aligned_release k t w.0 h.0, h.1)
+released_all j k (later e c) w h = (h.0, released_all j k c w.1 h.1)
 
 -- every call keeps this
 pub aligned_kept : (c : Call) (s : State) → StateForm s → Each (Aligned s.stroke) s.tasks → Each (Aligned (next c s).stroke) (next c s).tasks
 unfolding next next_by next_stroke older with_job
-aligned_kept (release v j) s f h = released_all v j s.stroke (changed_release (turn s.stroke) v j s.tasks) waits h
+aligned_kept (release j) s f h = released_all j s.stroke (changed_named j released release_answer s.tasks) waits h
   where
     waits : Each (λ t. 0 < s.stroke.left → t.number ≡ s.stroke.task → 0 < t.left) s.tasks
     waits = ⊎_elim (λ z. each_all _ s.tasks (λ t o. absurd (omega arith))) (λ p. each_of s.tasks (λ t k o x. (k x).pends) (lasting s f p)) (zero_or_pos s.stroke.left)
-aligned_kept (finish v j) s f h = aligned_finish v j s.stroke (changed (named j) (finished v) (stroke_finished v s.stroke) s.stroke s.tasks) f.tasks.distinct h
+aligned_kept (finish j) s f h = aligned_finish j s.stroke (changed (named j) finished (stroke_finished s.stroke) s.stroke s.tasks) f.tasks.distinct h
 aligned_kept tick s f h = each_map (Aligned (next_stroke tick s)) (Aligned (next_stroke tick s)) older (modify (turn s.stroke) used s.tasks) (λ t a p. let g = a p in record { m = g.m; d = g.d; all = g.all; part = part_older _ t g.d g.part }) (aligned_tick s.stroke (changed (turn s.stroke) used (stroke_ticked s.stroke) s.stroke s.tasks) f.tasks.distinct f.tasks.sound h)

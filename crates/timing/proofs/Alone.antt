@@ -18,7 +18,7 @@ use Rattle.timing.specs.Form.{Form, Fresh}
 use Rattle.timing.specs.OnTime.{count, is_finish, EndsBy, Ended}
 use Rattle.timing.specs.Serving.{nth, no_task}
 use Rattle.timing.proofs.Rate.{sum_of, rate}
-use Rattle.timing.proofs.Steps.{release_started, changed_release, changed_finish, bare, bare_nth, length_next, take_next}
+use Rattle.timing.proofs.Steps.{release_started, changed_named, bare, bare_nth, length_next, take_next}
 use Rattle.timing.proofs.Form.{form_kept}
 use Rattle.timing.proofs.Demand.{rate_next}
 use Rattle.timing.proofs.Level.{Level, level_idle, level_kept, level_timely}
@@ -40,7 +40,7 @@ module _ (w e j k : ℕ) where
   -- its task, and for every other number one with nothing to do
   viewed : List Task → ℕ → Task
   viewed s zero = nth s k
-  viewed s (suc i) = record { period = 0; budget = 0; age = 0; left = 0; number = i; stroke = 0; class = 0 }
+  viewed s (suc i) = record { period = 0; budget = 0; age = 0; left = 0; number = i; stroke = 0 }
 
   owed : ℕ → ℕ
   owed i = cond (eqb i j) e 0
@@ -61,17 +61,17 @@ module _ (w e j k : ℕ) where
   alone_timely s h p = level_timely w 0 0 s k p h.level
 
   alone_moves : (c : Call) (s : List Task) → Alone s → 0 < (nth s k).left → (1 ≤ count (is_finish (nth s k).number) (entry c (answer_by pending c s) ∷ [])) ⊎ Goes (entry c (answer_by pending c s)) (nth s k) (nth (next_by pending c s) k)
-  alone_moves (release v i) s h p = inr (release_goes pending v i s k p)
-  alone_moves (finish v i) s h p = finish_goes pending v i s k p
+  alone_moves (release i) s h p = inr (release_goes pending i s k p)
+  alone_moves (finish i) s h p = finish_goes pending i s k p
   alone_moves tick s h p = inr (tick_goes pending s k p (omega (arith, alone_timely s h p, h.within)))
 
   -- an accepted release starts a job of the whole budget
-  alone_begins : (v : ℕ) (s : List Task) → Alone s → answer_by pending (release v j) s ≡ accepted → (nth (next_by pending (release v j) s) k).left ≡ e
+  alone_begins : (s : List Task) → Alone s → answer_by pending (release j) s ≡ accepted → (nth (next_by pending (release j) s) k).left ≡ e
   unfolding answer_by next_by with_job
-  alone_begins v s h a =
-      let t = alone_kept (release v j) s h in
-      let whole = each_own j (λ u. u.left ≡ u.budget) (changed_release pending v j s) h.form.distinct (λ u x. rw (release_started v u (sym x ∙ a)) refl) in
-      each_at _ no_task (next_by pending (release v j) s) k t.place whole t.number ∙ t.budget
+  alone_begins s h a =
+      let t = alone_kept (release j) s h in
+      let whole = each_own j (λ u. u.left ≡ u.budget) (changed_named j released release_answer s) h.form.distinct (λ u x. rw (release_started u (sym x ∙ a)) refl) in
+      each_at _ no_task (next_by pending (release j) s) k t.place whole t.number ∙ t.budget
 
   alone_machine : Machine (answer_by pending) (next_by pending) Alone viewed (λ s i. w) (λ s. owed)
   unfolding viewed owed
@@ -79,7 +79,7 @@ module _ (w e j k : ℕ) where
     kept = alone_kept;
     timely = λ s. on s;
     moves = λ c s. move c s;
-    begins = λ v i s h a. begin v i s h a (eqb i j) refl;
+    begins = λ i s h a. begin i s h a (eqb i j) refl;
   }
     where
       on : (s : List Task) (i : ℕ) → Alone s → 0 < (viewed s i).left → (viewed s i).age + (viewed s i).left ≤ w
@@ -90,16 +90,16 @@ module _ (w e j k : ℕ) where
       move c s zero h p = ⊎_elim inl (λ m. inr (m, refl)) (alone_moves c s h p)
       move c s (suc i) h p = absurd (omega arith)
 
-      begin : (v i : ℕ) (s : List Task) → Alone s → answer_by pending (release v i) s ≡ accepted → (b : Bool) → eqb i j ≡ b → (m : ℕ) × ((viewed (next_by pending (release v i) s) m).number ≡ i) × ((viewed (next_by pending (release v i) s) m).left ≡ cond b e 0) × (w ≡ w)
-      begin v i s h a true x =
+      begin : (i : ℕ) (s : List Task) → Alone s → answer_by pending (release i) s ≡ accepted → (b : Bool) → eqb i j ≡ b → (m : ℕ) × ((viewed (next_by pending (release i) s) m).number ≡ i) × ((viewed (next_by pending (release i) s) m).left ≡ cond b e 0) × (w ≡ w)
+      begin i s h a true x =
           let same : i ≡ j = eqb-true i j x in
-          (zero, (alone_kept (release v i) s h).number ∙ sym same, ap (λ n. (nth (next_by pending (release v n) s) k).left) same ∙ alone_begins v s h (subst (λ n. answer_by pending (release v n) s ≡ accepted) same a), refl)
-      begin v i s h a false x = (suc i, refl, refl, refl)
+          (zero, (alone_kept (release i) s h).number ∙ sym same, ap (λ n. (nth (next_by pending (release n) s) k).left) same ∙ alone_begins s h (subst (λ n. answer_by pending (release n) s ≡ accepted) same a), refl)
+      begin i s h a false x = (suc i, refl, refl, refl)
 
 -- From a fresh state in form every log keeps task j, which stands at place k with budget e, within w.
 pub alone_on_time : (w e j k : ℕ) (s : List Task) → Form s → Each Fresh s → k < length s → (nth s k).number ≡ j → (nth s k).budget ≡ e → w ≤ (nth s k).period → sum_of (rate w) (take (suc k) s) ≤ w → (cs : List Call) → EndsBy w e j (log (answer_by pending) (next_by pending) s cs)
 unfolding owed
-alone_on_time w e j k s form fresh lt number budget within room cs v before xs rest a split n = subst (λ b. Ended b j (xs ++ entry tick a ∷ [])) (rw (eq-eqb j j refl)) (ends_in_time (answer_by pending) (next_by pending) (Alone w e j k) (viewed w e j k) (λ s i. w) (λ s. owed w e j k) (alone_machine w e j k) cs s start before xs rest v j a split (omega arith))
+alone_on_time w e j k s form fresh lt number budget within room cs before xs rest a split n = subst (λ b. Ended b j (xs ++ entry tick a ∷ [])) (rw (eq-eqb j j refl)) (ends_in_time (answer_by pending) (next_by pending) (Alone w e j k) (viewed w e j k) (λ s i. w) (λ s. owed w e j k) (alone_machine w e j k) cs s start before xs rest j a split (omega arith))
   where
     start : Alone w e j k s
     start = record { form = form; place = lt; number = number; budget = budget; within = within; room = room; level = level_idle w 0 0 (take (suc k) s) (each_take _ (suc k) s (each_of s (λ t x. x.left) fresh)) }

@@ -52,16 +52,16 @@ module _ (p e q : ℕ → ℕ) (s : State) (f : StateForm s) (h : Each Fresh s.t
   abbrev pub Listed : ℕ → Type 0
   Listed j = (i : ℕ) × (i < length u.tasks) × ((nth u.tasks i).number ≡ j)
 
-  pub listed : (before since : List Entry) (m j : ℕ) → l ≡ before ++ entry (release m j) accepted ∷ since → Listed j
+  pub listed : (before since : List Entry) (j : ℕ) → l ≡ before ++ entry (release j) accepted ∷ since → Listed j
   unfolding next bare with_job
-  listed before since m j split = released_listed Listed s (nth_each _ s.tasks (λ i lt. (i, run_kept next (λ x. i < length x.tasks) (λ c x y. omega (arith, length_next (turn x.stroke) c x.tasks)) (calls l) s lt, ap (λ t. t.number) (run_kept next (λ x. bare (nth x.tasks i) ≡ bare (nth s.tasks i)) (λ c x y. bare_nth (turn x.stroke) c x.tasks i ∙ y) (calls l) s refl)))) (calls l) before since m j (log_calls answer next l s k ∙ split)
+  listed before since j split = released_listed Listed s (nth_each _ s.tasks (λ i lt. (i, run_kept next (λ x. i < length x.tasks) (λ c x y. omega (arith, length_next (turn x.stroke) c x.tasks)) (calls l) s lt, ap (λ t. t.number) (run_kept next (λ x. bare (nth x.tasks i) ≡ bare (nth s.tasks i)) (λ c x y. bare_nth (turn x.stroke) c x.tasks i ∙ y) (calls l) s refl)))) (calls l) before since j (log_calls answer next l s k ∙ split)
 
   -- the task of a pending job has what the job was not given
   pub given : (j n i : ℕ) → PendingAfter (e j) j n l → i < length u.tasks → (nth u.tasks i).number ≡ j → (0 < (nth u.tasks i).left) × ((nth u.tasks i).left + n ≡ (nth u.tasks i).budget)
   unfolding Ended
   given j n i w lt number =
       let none : count (is_finish j) w.since ≡ 0 = ⊎_elim (λ z. z) (λ z. absurd (w.not_ended (inr z))) (zero_or_pos (count (is_finish j) w.since)) in
-      let all = each_at _ no_task u.tasks i lt (left.since w.before w.since w.class j w.split w.last none) number in
+      let all = each_at _ no_task u.tasks i lt (left.since w.before w.since j w.split w.last none) number in
       let budget : e j ≡ (nth u.tasks i).budget = ap e (sym number) ∙ (each_at _ no_task u.tasks i lt figured).1 in
       (few (dec_le (e j) (count (is_run j) w.since)) all budget, omega (arith, all, w.given))
     where
@@ -78,16 +78,15 @@ module _ (p e q : ℕ → ℕ) (s : State) (f : StateForm s) (h : Each Fresh s.t
 
       from : Cut (is_release j) (count (is_release j) l - 1) l → 0 < count (is_release j) l → (n : ℕ) × PendingAfter (e j) j n l
       from c z =
-          let r = release_entry j c.hit c.passes in
-          let split : l ≡ c.front ++ entry (release r.0 j) accepted ∷ c.back = c.whole ∙ ap (λ x. c.front ++ x ∷ c.back) r.1 in
-          let last : count (is_release j) c.back ≡ 0 = omega (arith, ap (count (is_release j)) split, c.before, count_append (is_release j) c.front (entry (release r.0 j) accepted ∷ c.back), count_cons (is_release j) (entry (release r.0 j) accepted) c.back, release_counts r.0 j j accepted refl refl) in
-          let ended = each_at _ no_task u.tasks i lt (pending_ended s f.tasks h (calls l) c.front c.back r.0 j (log_calls answer next l s k ∙ split) last) refl in
-          (count (is_run j) c.back, record { before = c.front; since = c.back; class = r.0; split = split; last = last; given = refl; not_ended = λ d. omega (arith, ended.1 (subst (λ b. Ended b j c.back) (each_at _ no_task u.tasks i lt figured).1 d)) })
+          let split : l ≡ c.front ++ entry (release j) accepted ∷ c.back = c.whole ∙ ap (λ x. c.front ++ x ∷ c.back) (release_entry j c.hit c.passes) in
+          let last : count (is_release j) c.back ≡ 0 = omega (arith, ap (count (is_release j)) split, c.before, count_append (is_release j) c.front (entry (release j) accepted ∷ c.back), count_cons (is_release j) (entry (release j) accepted) c.back, release_counts j j accepted refl refl) in
+          let ended = each_at _ no_task u.tasks i lt (pending_ended s f.tasks h (calls l) c.front c.back j (log_calls answer next l s k ∙ split) last) refl in
+          (count (is_run j) c.back, record { before = c.front; since = c.back; split = split; last = last; given = refl; not_ended = λ d. omega (arith, ended.1 (subst (λ b. Ended b j c.back) (each_at _ no_task u.tasks i lt figured).1 d)) })
 
   -- a job was given whole strokes, or the stroke that lasts is its own
   part : (j n : ℕ) → PendingAfter (e j) j n l → (n % q j ≡ 0) ⊎ ((0 < u.stroke.left) × (u.stroke.task ≡ j))
   part j n w =
-      let x = listed w.before w.since w.class j w.split in
+      let x = listed w.before w.since j w.split in
       let t = nth u.tasks x.0 in
       let r = given j n x.0 w x.1 x.2 in
       let g = each_at _ no_task u.tasks x.0 x.1 kept.1 r.0 in
@@ -127,7 +126,7 @@ module _ (p e q : ℕ → ℕ) (s : State) (f : StateForm s) (h : Each Fresh s.t
   free z = record {
     pends = λ j a. let x = tick_outside u kept.0.tasks z j a in subst (λ i. (n : ℕ) × PendingAfter (e i) i n l) x.1 (pends x.0 x.2.place x.2.waits);
     highest = λ i n w.
-        let x = listed w.before w.since w.class i w.split in
+        let x = listed w.before w.since i w.split in
         let y = (given i n x.0 w x.1 x.2).0 in
         let a = answered x.0 x.1 y in
         (a.0, a.1, first i x.0 x.1 x.2 y a.0 (tick_outside u kept.0.tasks z a.0 a.1));

@@ -73,6 +73,6 @@ pub tick_goes_to : (s : State) → StateForm s → TickGoes s (answer tick s)
 tick_goes_to s f = record { inside = tick_inside s f; outside = λ z j. tick_outside s f.tasks z j; idle = tick_idle s f }
 
 -- a task that may be released and still has a tick left is served: the tick looks at what is pending, not at ages
-pub serves_pending : answer tick (record { tasks = record { period = 5; budget = 1; age = 5; left = 1; number = 0; stroke = 1; class = 0 } ∷ []; stroke = no_stroke }) ≡ served 0
+pub serves_pending : answer tick (record { tasks = record { period = 5; budget = 1; age = 5; left = 1; number = 0; stroke = 1 } ∷ []; stroke = no_stroke }) ≡ served 0
 unfolding answer answer_by of_first pending
 serves_pending = refl

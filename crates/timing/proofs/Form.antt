@@ -10,11 +10,11 @@ use Rattle.fit.specs.Lists.{Each, EachPair}
 use Rattle.fit.proofs.Lists.{each_take, pairs_take}
 use Rattle.timing.specs.declared.Task.{Task}
 use Rattle.timing.specs.Tasks.{with_job, released, finished, used, older}
-use Rattle.timing.specs.Calls.{Call, release, finish, tick, modify, next_by, State, next, run}
+use Rattle.timing.specs.Calls.{Call, release, finish, tick, release_answer, finish_answer, modify, next_by, State, next, run}
 use Rattle.timing.specs.Form.{Sound, Distinct, Above, Form}
 use Rattle.timing.proofs.Lists.{each_map}
 use Rattle.timing.proofs.Runs.{run_kept}
-use Rattle.timing.proofs.Steps.{released_cases, finished_cases, changed_release, changed_finish, changed_tick, each_changed, bare, bare_next, length_next}
+use Rattle.timing.proofs.Steps.{released_cases, finished_cases, changed_named, changed_tick, each_changed, bare, bare_next, length_next}
 
 -- a property of each changed task is the property, at the change, of each task
 pub each_of_map : (P : Task → Type 0) (g : Task → Task) (s : List Task) → Each P (map g s) ≡ Each (λ t. P (g t)) s
@@ -35,8 +35,8 @@ figures_kept P e q c s h = subst (λ X. X) (sym (e s) ∙ ap P (sym (bare_next q
 -- a call keeps each task sound
 sound_next : (q : Task → Bool) (c : Call) (s : List Task) → Each Sound s → Each Sound (next_by q c s)
 unfolding next_by used older with_job
-sound_next q (release v j) s h = each_changed Sound (λ t k. released_cases Sound v t k (λ x y. omega arith)) (changed_release q v j s) h
-sound_next q (finish v j) s h = each_changed Sound (λ t k. finished_cases Sound v t k (λ x. omega arith)) (changed_finish q v j s) h
+sound_next q (release j) s h = each_changed Sound (λ t k. released_cases Sound t k (λ x y. omega arith)) (changed_named j released release_answer s) h
+sound_next q (finish j) s h = each_changed Sound (λ t k. finished_cases Sound t k (λ x. omega arith)) (changed_named j finished finish_answer s) h
 sound_next q tick s h = each_map Sound Sound older (modify q used s) (λ t k. omega arith) (each_changed Sound (λ t k. omega arith) (changed_tick q used s) h)
 
 -- each call hands back a state in form

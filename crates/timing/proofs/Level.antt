@@ -12,11 +12,11 @@ use Rattle.fit.specs.Lists.{Each}
 use Rattle.fit.proofs.Lists.{each_of, each_all}
 use Rattle.timing.specs.declared.Task.{Task}
 use Rattle.timing.specs.Tasks.{pending, with_job, released, finished, used, older}
-use Rattle.timing.specs.Calls.{Call, release, finish, tick, Answer, modify, next_by}
+use Rattle.timing.specs.Calls.{Call, release, finish, tick, Answer, release_answer, finish_answer, modify, next_by}
 use Rattle.timing.specs.Serving.{nth}
 use Rattle.timing.proofs.Rate.{sum_of, rate, due, due_older, due_released, due_le_rate}
 use Rattle.timing.proofs.Lists.{zero_or_pos, each_map, each_level, pending_place, nth_le_sum, sum_le, sum_map}
-use Rattle.timing.proofs.Steps.{released_cases, finished_cases, Changed, nowhere, here, later, changed_release, changed_finish, changed_tick, Pends, each_changed, sum_changed, sum_same, sum_less}
+use Rattle.timing.proofs.Steps.{released_cases, finished_cases, Changed, nowhere, here, later, changed_named, changed_tick, Pends, each_changed, sum_changed, sum_same, sum_less}
 use Rattle.timing.proofs.Demand.{rate_next}
 
 -- the ticks left of all jobs of a level
@@ -103,38 +103,38 @@ busy_older w B r b s h =
     }
 
 -- a finish and a tick add no work
-work_finish : (q : Task → Bool) (v j : ℕ) (s : List Task) → work (next_by q (finish v j) s) ≤ work s
+work_finish : (q : Task → Bool) (j : ℕ) (s : List Task) → work (next_by q (finish j) s) ≤ work s
 unfolding next_by with_job
-work_finish q v j s = sum_less (λ t. t.left) (λ t. finished_cases (λ u. u.left ≤ t.left) v t (omega arith) (λ p. omega arith)) (changed_finish q v j s)
+work_finish q j s = sum_less (λ t. t.left) (λ t. finished_cases (λ u. u.left ≤ t.left) t (omega arith) (λ p. omega arith)) (changed_named j finished finish_answer s)
 
 pub work_tick : (q : Task → Bool) (s : List Task) → work (next_by q tick s) ≤ work s
 unfolding next_by used with_job
 work_tick q s = rw work_older (sum_less (λ t. t.left) (λ t. omega arith) (changed_tick q used s))
 
 -- a finish keeps a level busy as it was, with less work
-busy_finish : (w B r b v j : ℕ) (q : Task → Bool) (s : List Task) → Busy w B r b s → Busy w B r b (next_by q (finish v j) s)
+busy_finish : (w B r b j : ℕ) (q : Task → Bool) (s : List Task) → Busy w B r b s → Busy w B r b (next_by q (finish j) s)
 unfolding next_by due with_job
-busy_finish w B r b v j q s h =
-    let c = changed_finish q v j s in
-    let x = work_finish q v j s in
-    let y = sum_same (due b) (λ t. finished_cases (λ u. due b u ≡ due b t) v t refl (λ p. refl)) c in
+busy_finish w B r b j q s h =
+    let c = changed_named j finished finish_answer s in
+    let x = work_finish q j s in
+    let y = sum_same (due b) (λ t. finished_cases (λ u. due b u ≡ due b t) t refl (λ p. refl)) c in
     record {
       paid = omega arith;
-      young = each_changed (Young b) (λ t k. finished_cases (Young b) v t k (λ p q. k p)) c h.young;
+      young = each_changed (Young b) (λ t k. finished_cases (Young b) t k (λ p q. k p)) c h.young;
       fits = omega arith;
     }
 
 -- a release within the window: what is due is still within the demand of the window
-busy_release : (w B r b v j : ℕ) (q : Task → Bool) (s : List Task) → B + sum_of (rate w) s ≤ w → Each (λ t. 0 < t.period) s → b ≤ w - 1 → Busy w B r b s → Busy w B r b (next_by q (release v j) s)
+busy_release : (w B r b j : ℕ) (q : Task → Bool) (s : List Task) → B + sum_of (rate w) s ≤ w → Each (λ t. 0 < t.period) s → b ≤ w - 1 → Busy w B r b s → Busy w B r b (next_by q (release j) s)
 unfolding next_by with_job
-busy_release w B r b v j q s room pos lt h =
-    let c = changed_release q v j s in
-    let x = sum_changed (λ t. t.left) (due b) c (each_of s (λ t p. released_cases (λ u. u.left + due b t ≤ t.left + due b u) v t (omega arith) (λ old z. omega (arith, due_released b t.budget t p old))) pos) in
-    let y = sum_le (due b) (rate w) (next_by q (release v j) s) (each_of _ (λ t p. due_le_rate w b t p lt) (each_changed (λ t. 0 < t.period) (λ t p. released_cases (λ u. 0 < u.period) v t p (λ old z. p)) c pos)) in
-    let z = rate_next w q (release v j) s in
+busy_release w B r b j q s room pos lt h =
+    let c = changed_named j released release_answer s in
+    let x = sum_changed (λ t. t.left) (due b) c (each_of s (λ t p. released_cases (λ u. u.left + due b t ≤ t.left + due b u) t (omega arith) (λ old z. omega (arith, due_released b t.budget t p old))) pos) in
+    let y = sum_le (due b) (rate w) (next_by q (release j) s) (each_of _ (λ t p. due_le_rate w b t p lt) (each_changed (λ t. 0 < t.period) (λ t p. released_cases (λ u. 0 < u.period) t p (λ old z. p)) c pos)) in
+    let z = rate_next w q (release j) s in
     record {
       paid = omega arith;
-      young = each_changed (Young b) (λ t k. released_cases (Young b) v t k (λ old z p. omega arith)) c h.young;
+      young = each_changed (Young b) (λ t k. released_cases (Young b) t k (λ old z p. omega arith)) c h.young;
       fits = omega arith;
     }
 
@@ -160,16 +160,16 @@ unfolding Level
 level_less w B r r' s h k p = ((k p).0, busy_less w B r r' (k p).0 s h (k p).1)
 
 -- a release keeps a level whose demand in w ticks fits in w ticks
-pub level_release : (v j w B r : ℕ) (q : Task → Bool) (s : List Task) → B + sum_of (rate w) s ≤ w → r ≤ B → Each (λ t. 0 < t.period) s → Level w B r s → Level w B r (next_by q (release v j) s)
+pub level_release : (j w B r : ℕ) (q : Task → Bool) (s : List Task) → B + sum_of (rate w) s ≤ w → r ≤ B → Each (λ t. 0 < t.period) s → Level w B r s → Level w B r (next_by q (release j) s)
 unfolding Level
-level_release v j w B r q s room held pos h p = ⊎_elim (λ z. (0, busy_release w B r 0 v j q s room pos (omega arith) (busy_idle w B r s room held z))) (λ x. ((h x).0, busy_release w B r (h x).0 v j q s room pos (omega (arith, (h x).1.fits)) (h x).1)) (zero_or_pos (work s))
+level_release j w B r q s room held pos h p = ⊎_elim (λ z. (0, busy_release w B r 0 j q s room pos (omega arith) (busy_idle w B r s room held z))) (λ x. ((h x).0, busy_release w B r (h x).0 j q s room pos (omega (arith, (h x).1.fits)) (h x).1)) (zero_or_pos (work s))
 
 -- and so does a finish
-pub level_finish : (v j w B r : ℕ) (q : Task → Bool) (s : List Task) → Level w B r s → Level w B r (next_by q (finish v j) s)
+pub level_finish : (j w B r : ℕ) (q : Task → Bool) (s : List Task) → Level w B r s → Level w B r (next_by q (finish j) s)
 unfolding Level
-level_finish v j w B r q s h p =
-    let x : 0 < work s = omega (arith, work_finish q v j s) in
-    ((h x).0, busy_finish w B r (h x).0 v j q s (h x).1)
+level_finish j w B r q s h p =
+    let x : 0 < work s = omega (arith, work_finish q j s) in
+    ((h x).0, busy_finish w B r (h x).0 j q s (h x).1)
 
 -- a tick that goes to a task of the level
 pub level_served : (w B r : ℕ) (q : Task → Bool) (s : List Task) → (0 < work s → work (modify q used s) + 1 ≡ work s) → Level w B r s → Level w B r (next_by q tick s)
@@ -187,8 +187,8 @@ level_held w B r s h p =
 
 -- every call keeps a level where a tick goes to the first pending task
 pub level_kept : (c : Call) (w B r : ℕ) (s : List Task) → B + sum_of (rate w) s ≤ w → r ≤ B → Each (λ t. 0 < t.period) s → Level w B r s → Level w B r (next_by pending c s)
-level_kept (release v j) w B r s room held pos h = level_release v j w B r pending s room held pos h
-level_kept (finish v j) w B r s room held pos h = level_finish v j w B r pending s h
+level_kept (release j) w B r s room held pos h = level_release j w B r pending s room held pos h
+level_kept (finish j) w B r s room held pos h = level_finish j w B r pending s h
 level_kept tick w B r s room held pos h = level_served w B r pending s (λ x. work_used x (changed_tick pending used s)) h
 
 busy_timely : (w B r b : ℕ) (s : List Task) (i : ℕ) → 0 < (nth s i).left → Busy w B r b (take (suc i) s) → (nth s i).age + (nth s i).left ≤ w

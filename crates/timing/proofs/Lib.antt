@@ -21,4 +21,3 @@ pub mod Own
 pub mod Age
 pub mod Left
 pub mod History
-pub mod TwoRuns

@@ -27,7 +27,7 @@ pub record Machine {S : Type 0} (ask : Call → S → Answer) (step : Call → S
   -- over one call a pending job is finished, or it goes on under the same bound
   pub moves : (c : Call) (s : S) (i : ℕ) → Good s → 0 < (view s i).left → (1 ≤ count (is_finish (view s i).number) (entry c (ask c s) ∷ [])) ⊎ (Goes (entry c (ask c s)) (view s i) (view (step c s) i) × (bound (step c s) (view s i).number ≡ bound s (view s i).number))
   -- an accepted release starts a job of the whole budget under the same bound
-  pub begins : (v j : ℕ) (s : S) → Good s → ask (release v j) s ≡ accepted → (i : ℕ) × ((view (step (release v j) s) i).number ≡ j) × ((view (step (release v j) s) i).left ≡ budget s j) × (bound (step (release v j) s) j ≡ bound s j)
+  pub begins : (j : ℕ) (s : S) → Good s → ask (release j) s ≡ accepted → (i : ℕ) × ((view (step (release j) s) i).number ≡ j) × ((view (step (release j) s) i).left ≡ budget s j) × (bound (step (release j) s) j ≡ bound s j)
 
 -- no call on a good state is refused as Late
 abbrev pub Punctual : {S : Type 0} → (Call → S → Answer) → (S → Type 0) → Type 0
@@ -51,19 +51,19 @@ module _ {S : Type 0} (ask : Call → S → Answer) (step : Call → S → S) (G
   follow (entry c a ∷ l) s i h g b = ⊎_elim (λ z. inl (omega arith)) (λ pos. rw h.0 (follow_step c l s i g pos (rw h.0 at b) (follow l (step c s) i h.1 (M.kept c s g)))) (zero_or_pos (view s i).left)
 
   -- from the release on: once the ticks of the log come to the bound
-  from_release : (s : S) (v j : ℕ) (l : List Entry) → Good s → ask (release v j) s ≡ accepted → Logged ask step (step (release v j) s) l → count is_tick l ≡ bound s j → Ended (budget s j) j l
-  from_release s v j l g e h n =
-      let b = M.begins v j s g e in
-      subst₂ (λ k i. Ended k i l) b.2 b.1 (follow l (step (release v j) s) b.0 h (M.kept (release v j) s g) (omega (arith, ap (bound (step (release v j) s)) b.1)))
+  from_release : (s : S) (j : ℕ) (l : List Entry) → Good s → ask (release j) s ≡ accepted → Logged ask step (step (release j) s) l → count is_tick l ≡ bound s j → Ended (budget s j) j l
+  from_release s j l g e h n =
+      let b = M.begins j s g e in
+      subst₂ (λ k i. Ended k i l) b.2 b.1 (follow l (step (release j) s) b.0 h (M.kept (release j) s g) (omega (arith, ap (bound (step (release j) s)) b.1)))
 
   -- The rule at any place of a log, with the bound and the budget in force where the job was released.
-  pub ends_in_time : (cs : List Call) (s : S) → Good s → (before xs rest : List Entry) (v j : ℕ) (a : Answer) → log ask step s cs ≡ before ++ entry (release v j) accepted ∷ (xs ++ entry tick a ∷ rest) → count is_tick xs + 1 ≡ bound (run step s (calls before)) j → Ended (budget (run step s (calls before)) j) j (xs ++ entry tick a ∷ [])
+  pub ends_in_time : (cs : List Call) (s : S) → Good s → (before xs rest : List Entry) (j : ℕ) (a : Answer) → log ask step s cs ≡ before ++ entry (release j) accepted ∷ (xs ++ entry tick a ∷ rest) → count is_tick xs + 1 ≡ bound (run step s (calls before)) j → Ended (budget (run step s (calls before)) j) j (xs ++ entry tick a ∷ [])
   unfolding Logged count is_tick to_tick
-  ends_in_time cs s g before xs rest v j a e n =
+  ends_in_time cs s g before xs rest j a e n =
       let s₁ = run step s (calls before) in
       let h = (log_split ask step cs s before _ e).1 in
-      let l = (logged_append ask step (xs ++ entry tick a ∷ []) rest (step (release v j) s₁) (rw append_snoc h.1)).0 in
-      from_release s₁ v j (xs ++ entry tick a ∷ []) (run_kept step Good M.kept (calls before) s g) (sym h.0) l (omega (arith, count_append is_tick xs (entry tick a ∷ [])))
+      let l = (logged_append ask step (xs ++ entry tick a ∷ []) rest (step (release j) s₁) (rw append_snoc h.1)).0 in
+      from_release s₁ j (xs ++ entry tick a ∷ []) (run_kept step Good M.kept (calls before) s g) (sym h.0) l (omega (arith, count_append is_tick xs (entry tick a ∷ [])))
 
   -- no call of a log is refused as Late
   pub never_late : Punctual ask Good → (cs : List Call) (s : S) → Good s → count (is_refused 19) (log ask step s cs) ≡ 0
@@ -74,6 +74,6 @@ module _ {S : Type 0} (ask : Call → S → Answer) (step : Call → S → S) (G
 -- where the bounds and budgets in force are the same at every state, the rule holds with them over every log
 pub machine_on_time : {S : Type 0} (ask : Call → S → Answer) (step : Call → S → S) (Good : S → Type 0) (view : S → ℕ → Task) (w e : ℕ → ℕ) → Machine ask step Good view (λ s. w) (λ s. e) → Punctual ask Good → (cs : List Call) (s : S) → Good s → OnTime w e (log ask step s cs)
 machine_on_time ask step Good view w e M n cs s g = record {
-  ends = λ j v before xs rest a h m. ends_in_time ask step Good view (λ s. w) (λ s. e) M cs s g before xs rest v j a h (omega arith);
+  ends = λ j before xs rest a h m. ends_in_time ask step Good view (λ s. w) (λ s. e) M cs s g before xs rest j a h (omega arith);
   never_late = never_late ask step Good view (λ s. w) (λ s. e) M n cs s g;
 }

@@ -12,14 +12,14 @@ use Rattle.fit.specs.Lists.{Each}
 use Rattle.fit.proofs.Lists.{each_of, each_take, each_at}
 use Rattle.timing.specs.declared.Task.{Task}
 use Rattle.timing.specs.Tasks.{named, with_job, released, finished, used, older}
-use Rattle.timing.specs.Calls.{Call, release, finish, tick, Answer, accepted, modify, answer_by, next_by, no_stroke, turn, State, next_stroke, answer, next, Entry, entry, log, of_first, tick_answer, idle}
+use Rattle.timing.specs.Calls.{Call, release, finish, tick, Answer, accepted, release_answer, finish_answer, modify, answer_by, next_by, no_stroke, turn, State, next_stroke, answer, next, Entry, entry, log, of_first, tick_answer, idle}
 use Rattle.timing.specs.Form.{Fresh}
 use Rattle.timing.specs.OnTime.{count, to_tick, refused_with, is_tick, is_finish, is_refused, OnTime}
 use Rattle.timing.specs.Serving.{no_task, nth}
 use Rattle.timing.specs.Strokes.{StateForm}
 use Rattle.timing.proofs.Lists.{zero_or_pos, pending_place}
 use Rattle.timing.proofs.Runs.{finish_counts, run_counts}
-use Rattle.timing.proofs.Steps.{release_reply, finish_reply, absent_cases, absent_refused, finish_pending, Release, is_unknown, is_barred, is_early, is_late, starts, release_view, release_started, Finish, cannot, may_not, is_quiet, ends, finish_view, released_cases, changed_release, changed_finish, changed_tick, changed_nth, changed_found, changed_answer, bare, length_next, take_next}
+use Rattle.timing.proofs.Steps.{Release, is_early, is_late, starts, release_view, release_started, Finish, is_quiet, ends, finish_view, released_cases, changed_named, changed_tick, changed_nth, changed_found, changed_answer, bare, length_next, take_next}
 use Rattle.timing.proofs.Form.{each_of_map, figures_kept}
 use Rattle.timing.proofs.Demand.{Demand, number_next, demand_kept}
 use Rattle.timing.proofs.Level.{Level, level_idle, level_less, level_release, level_finish, level_timely}
@@ -44,13 +44,20 @@ goes_same x {t} {t'} n e = record {
 }
 
 -- what each call does to a pending job
-pub release_goes : (q : Task → Bool) (v j : ℕ) (s : List Task) (i : ℕ) → 0 < (nth s i).left → Goes (entry (release v j) (answer_by q (release v j) s)) (nth s i) (nth (next_by q (release v j) s) i)
+pub release_goes : (q : Task → Bool) (j : ℕ) (s : List Task) (i : ℕ) → 0 < (nth s i).left → Goes (entry (release j) (answer_by q (release j) s)) (nth s i) (nth (next_by q (release j) s) i)
 unfolding next_by count is_tick to_tick
-release_goes q v j s i p = goes_same _ refl (⊎_elim (λ x. x) (λ h. h.1 ∙ released_cases (λ u. u ≡ nth s i) v (nth s i) refl (λ x z. absurd (omega arith))) (changed_nth i (changed_release q v j s)))
+release_goes q j s i p = goes_same _ refl (⊎_elim (λ x. x) (λ h. h.1 ∙ released_cases (λ u. u ≡ nth s i) (nth s i) refl (λ x z. absurd (omega arith))) (changed_nth i (changed_named j released release_answer s)))
 
-pub finish_goes : (q : Task → Bool) (v j : ℕ) (s : List Task) (i : ℕ) → 0 < (nth s i).left → (1 ≤ count (is_finish (nth s i).number) (entry (finish v j) (answer_by q (finish v j) s) ∷ [])) ⊎ Goes (entry (finish v j) (answer_by q (finish v j) s)) (nth s i) (nth (next_by q (finish v j) s) i)
+finish_accepted : (t : Task) → 0 < t.left → finish_answer t ≡ accepted
+finish_accepted t p = go (finish_view t)
+  where
+    go : {a : Answer} {t' : Task} → Finish t a t' → a ≡ accepted
+    go (is_quiet z) = absurd (omega arith)
+    go (ends k) = refl
+
+pub finish_goes : (q : Task → Bool) (j : ℕ) (s : List Task) (i : ℕ) → 0 < (nth s i).left → (1 ≤ count (is_finish (nth s i).number) (entry (finish j) (answer_by q (finish j) s) ∷ [])) ⊎ Goes (entry (finish j) (answer_by q (finish j) s)) (nth s i) (nth (next_by q (finish j) s) i)
 unfolding next_by answer_by count is_tick to_tick named
-finish_goes q v j s i p = ⊎_elim (λ x. inr (goes_same _ refl x)) (λ h. ⊎_elim (λ a. inl (omega (arith, finish_counts v (nth s i).number j (answer_by q (finish v j) s) (sym (eqb-true _ _ h.0)) (h.2 ∙ a)))) (λ x. inr (goes_same _ refl (h.1 ∙ x))) (finish_pending v _ p)) (changed_nth i (changed_finish q v j s))
+finish_goes q j s i p = ⊎_elim (λ x. inr (goes_same _ refl x)) (λ h. inl (omega (arith, finish_counts (nth s i).number j (answer_by q (finish j) s) (sym (eqb-true _ _ h.0)) (h.2 ∙ finish_accepted _ p)))) (changed_nth i (changed_named j finished finish_answer s))
 
 pub tick_goes : (q : Task → Bool) (s : List Task) (i : ℕ) → 0 < (nth s i).left → (nth s i).age < (nth s i).period → Goes (entry tick (answer_by q tick s)) (nth s i) (nth (next_by q tick s) i)
 unfolding next_by answer_by older used with_job count is_tick to_tick
@@ -63,25 +70,21 @@ abbrev NotLate : Answer → Type 0
 NotLate a = refused_with 19 a ≡ false
 
 -- the only Late answer is that of a task whose release is due while it is pending
-release_not_late : (v : ℕ) (t : Task) → (0 < t.left → t.age < t.period) → NotLate (release_reply v t)
+release_not_late : (t : Task) → (0 < t.left → t.age < t.period) → NotLate (release_answer t)
 unfolding refused_with
-release_not_late v t h = go (release_view v t)
+release_not_late t h = go (release_view t)
   where
-    go : {a : Answer} {t' : Task} → Release v t a t' → NotLate a
-    go (is_unknown x) = refl
-    go (is_barred x) = refl
+    go : {a : Answer} {t' : Task} → Release t a t' → NotLate a
     go (is_early x) = refl
     go (is_late x y) = absurd (omega (arith, h y))
     go (starts x y) = refl
 
 -- and no finish is Late
-finish_not_late : (v : ℕ) (t : Task) → NotLate (finish_reply v t)
+finish_not_late : (t : Task) → NotLate (finish_answer t)
 unfolding refused_with
-finish_not_late v t = go (finish_view v t)
+finish_not_late t = go (finish_view t)
   where
-    go : {a : Answer} {t' : Task} → Finish v t a t' → NotLate a
-    go (cannot x) = refl
-    go (may_not x) = refl
+    go : {a : Answer} {t' : Task} → Finish t a t' → NotLate a
     go (is_quiet x) = refl
     go (ends x) = refl
 
@@ -89,14 +92,14 @@ module _ (B w e : ℕ → ℕ) where
   -- the bound on what is held against a level, and the level, after a call
   held_kept : (c : Call) (s : State) → Good B w e s → (k : ℕ) → k < length s.tasks → held_by (next_stroke c s) (take (suc k) s.tasks) ≤ B k
   unfolding next_stroke
-  held_kept (release v j) s g k lt = g.held k lt
-  held_kept (finish v j) s g k lt = ⊎_elim (λ x. rw x (g.held k lt)) (λ x. rw x (omega (arith, held_most no_stroke (take (suc k) s.tasks)))) (finish_stroke v j s)
+  held_kept (release j) s g k lt = g.held k lt
+  held_kept (finish j) s g k lt = ⊎_elim (λ x. rw x (g.held k lt)) (λ x. rw x (omega (arith, held_most no_stroke (take (suc k) s.tasks)))) (finish_stroke j s)
   held_kept tick s g k lt = tick_held s g.form (suc k) 0 (B k) (g.demand.blocked k lt) (g.held k lt)
 
   level_next : (c : Call) (s : State) → Good B w e s → (k : ℕ) → k < length s.tasks → Level (w (nth s.tasks k).number) (B k) (held_by (next_stroke c s) (take (suc k) s.tasks)) (next_by (turn s.stroke) c (take (suc k) s.tasks))
   unfolding next_stroke
-  level_next (release v j) s g k lt = level_release v j _ (B k) _ _ (take (suc k) s.tasks) (g.demand.room k lt) (g.held k lt) (each_take _ (suc k) s.tasks (each_of s.tasks (λ t h. h.period_min) g.form.tasks.sound)) (g.levels k lt)
-  level_next (finish v j) s g k lt = level_less _ (B k) _ _ _ (⊎_elim (λ x. rw x (omega arith)) (λ x. rw x (omega (arith, held_most no_stroke (take (suc k) s.tasks)))) (finish_stroke v j s)) (level_finish v j _ (B k) _ _ (take (suc k) s.tasks) (g.levels k lt))
+  level_next (release j) s g k lt = level_release j _ (B k) _ _ (take (suc k) s.tasks) (g.demand.room k lt) (g.held k lt) (each_take _ (suc k) s.tasks (each_of s.tasks (λ t h. h.period_min) g.form.tasks.sound)) (g.levels k lt)
+  level_next (finish j) s g k lt = level_less _ (B k) _ _ _ (⊎_elim (λ x. rw x (omega arith)) (λ x. rw x (omega (arith, held_most no_stroke (take (suc k) s.tasks)))) (finish_stroke j s)) (level_finish j _ (B k) _ _ (take (suc k) s.tasks) (g.levels k lt))
   level_next tick s g k lt = tick_level s g.form (suc k) _ (B k) (g.levels k lt)
 
   -- every call keeps a good state good
@@ -124,23 +127,23 @@ module _ (B w e : ℕ → ℕ) where
 
   moves : (c : Call) (s : State) (i : ℕ) → Good B w e s → 0 < (nth s.tasks i).left → (1 ≤ count (is_finish (nth s.tasks i).number) (entry c (answer c s) ∷ [])) ⊎ Goes (entry c (answer c s)) (nth s.tasks i) (nth (next c s).tasks i)
   unfolding answer next
-  moves (release v j) s i g p = inr (release_goes (turn s.stroke) v j s.tasks i p)
-  moves (finish v j) s i g p = finish_goes (turn s.stroke) v j s.tasks i p
+  moves (release j) s i g p = inr (release_goes (turn s.stroke) j s.tasks i p)
+  moves (finish j) s i g p = finish_goes (turn s.stroke) j s.tasks i p
   moves tick s i g p = inr (tick_goes (turn s.stroke) s.tasks i p (young s i g p))
 
   -- no call is refused as Late
   not_late : (c : Call) (s : State) → Good B w e s → NotLate (answer c s)
   unfolding answer answer_by refused_with
-  not_late (release v j) s g = changed_answer NotLate (absent_cases NotLate v refl refl) (λ i. release_not_late v _ (young s i g)) (changed_release (turn s.stroke) v j s.tasks)
-  not_late (finish v j) s g = changed_answer NotLate (absent_cases NotLate v refl refl) (λ i. finish_not_late v _) (changed_finish (turn s.stroke) v j s.tasks)
+  not_late (release j) s g = changed_answer NotLate refl (λ i. release_not_late _ (young s i g)) (changed_named j released release_answer s.tasks)
+  not_late (finish j) s g = changed_answer NotLate refl (λ i. finish_not_late _) (changed_named j finished finish_answer s.tasks)
   not_late tick s g = changed_answer NotLate refl (λ i. refl) (changed_tick (turn s.stroke) used s.tasks)
 
   -- an accepted release starts a job of the whole budget
-  begins : (v j : ℕ) (s : State) → Good B w e s → answer (release v j) s ≡ accepted → (i : ℕ) × ((nth (next (release v j) s).tasks i).number ≡ j) × ((nth (next (release v j) s).tasks i).left ≡ e j)
+  begins : (j : ℕ) (s : State) → Good B w e s → answer (release j) s ≡ accepted → (i : ℕ) × ((nth (next (release j) s).tasks i).number ≡ j) × ((nth (next (release j) s).tasks i).left ≡ e j)
   unfolding answer next answer_by next_by named with_job
-  begins v j s g a = ⊎_elim (λ x. absurd (absent_refused v (sym x ∙ a))) (λ h. at h.0 h.1 (eqb-true _ _ h.2) (h.3 ∙ release_started v _ (sym h.4 ∙ a))) (changed_found (changed_release (turn s.stroke) v j s.tasks))
+  begins j s g a = ⊎_elim (λ x. (0, cc, cc)) (λ h. at h.0 h.1 (eqb-true _ _ h.2) (h.3 ∙ release_started _ (sym h.4 ∙ a))) (changed_found (changed_named j released release_answer s.tasks))
     where
-      at : (i : ℕ) → i < length s.tasks → (nth s.tasks i).number ≡ j → nth (next (release v j) s).tasks i ≡ with_job (nth s.tasks i) 0 (nth s.tasks i).budget → (k : ℕ) × ((nth (next (release v j) s).tasks k).number ≡ j) × ((nth (next (release v j) s).tasks k).left ≡ e j)
+      at : (i : ℕ) → i < length s.tasks → (nth s.tasks i).number ≡ j → nth (next (release j) s).tasks i ≡ with_job (nth s.tasks i) 0 (nth s.tasks i).budget → (k : ℕ) × ((nth (next (release j) s).tasks k).number ≡ j) × ((nth (next (release j) s).tasks k).left ≡ e j)
       at i lt n x = (i, ap (λ t. t.number) x ∙ n, ap (λ t. t.left) x ∙ sym (each_at _ no_task s.tasks i lt g.budgets) ∙ ap e n)
 
   -- the laws of the on_time rule hold for states
@@ -149,7 +152,7 @@ module _ (B w e : ℕ → ℕ) where
     kept = good_kept;
     timely = timely;
     moves = λ c s i g p. ⊎_elim inl (λ m. inr (m, refl)) (moves c s i g p);
-    begins = λ v j s g a. let b = begins v j s g a in (b.0, b.1, b.2, refl);
+    begins = λ j s g a. let b = begins j s g a in (b.0, b.1, b.2, refl);
   }
 
   punctual : Punctual answer (Good B w e)

@@ -41,8 +41,8 @@ one_tick_lem t e =
 
 none_lasts : (c : Call) (s : List Task) → Ones s → next_stroke c (plain s) ≡ no_stroke
 unfolding next_stroke
-none_lasts (release v j) s h = refl
-none_lasts (finish v j) s h = ⊎_elim (λ e. e) (λ e. e) (finish_stroke v j (plain s))
+none_lasts (release j) s h = refl
+none_lasts (finish j) s h = ⊎_elim (λ e. e) (λ e. e) (finish_stroke j (plain s))
 none_lasts tick s h = ⊎_elim (λ e. e) (λ x. x.4 ∙ one_tick_lem (nth s x.0) (each_at _ no_task s x.0 x.1 h)) (changed_found (changed (turn no_stroke) used (stroke_ticked no_stroke) no_stroke s))
 
 -- each call answers and does what it does without strokes

@@ -54,13 +54,13 @@ count_cut q n (x ∷ l) h = go (q x) refl n h (λ m. count_cut q m l)
         record { front = x ∷ c.front; hit = c.hit; back = c.back; whole = ap (λ t. x ∷ t) c.whole; passes = c.passes; before = rw e c.before }
 
 -- what one entry counts: an accepted release or finish of j, and a tick that is answered with j
-pub release_counts : (v j i : ℕ) (a : Answer) → i ≡ j → a ≡ accepted → count (is_release j) (entry (release v i) a ∷ []) ≡ 1
+pub release_counts : (j i : ℕ) (a : Answer) → i ≡ j → a ≡ accepted → count (is_release j) (entry (release i) a ∷ []) ≡ 1
 unfolding count is_release to_release is_accepted
-release_counts v j i a d e = rw (e, eq-eqb i j d)
+release_counts j i a d e = rw (e, eq-eqb i j d)
 
-pub finish_counts : (v j i : ℕ) (a : Answer) → i ≡ j → a ≡ accepted → count (is_finish j) (entry (finish v i) a ∷ []) ≡ 1
+pub finish_counts : (j i : ℕ) (a : Answer) → i ≡ j → a ≡ accepted → count (is_finish j) (entry (finish i) a ∷ []) ≡ 1
 unfolding count is_finish to_finish is_accepted
-finish_counts v j i a d e = rw (e, eq-eqb i j d)
+finish_counts j i a d e = rw (e, eq-eqb i j d)
 
 pub run_counts : (j i : ℕ) (a : Answer) → i ≡ j → a ≡ served i → count (is_run j) (entry tick a ∷ []) ≡ 1
 unfolding count is_run to_tick served_to
@@ -75,8 +75,8 @@ run_kept step P k (c ∷ cs) s h = run_kept step P k cs (step c s) (k c s h)
 -- an entry that counts as a tick is a tick
 pub tick_entry : (x : Entry) → is_tick x ≡ true → (a : Answer) × (x ≡ entry tick a)
 unfolding is_tick to_tick
-tick_entry (entry (release v i) a) e = absurd (false≢true e)
-tick_entry (entry (finish v i) a) e = absurd (false≢true e)
+tick_entry (entry (release i) a) e = absurd (false≢true e)
+tick_entry (entry (finish i) a) e = absurd (false≢true e)
 tick_entry (entry tick a) e = (a, refl)
 
 -- a call of some kind that names i and counts as an accepted one of j is an accepted one of j
@@ -92,18 +92,18 @@ accepted_entry c i j a e = go (eqb i j) refl a e
     go false x a y = absurd (false≢true y)
 
 -- so one that counts as a finish of j is an accepted finish of j
-pub finish_entry : (j : ℕ) (x : Entry) → is_finish j x ≡ true → (v : ℕ) × (x ≡ entry (finish v j) accepted)
+pub finish_entry : (j : ℕ) (x : Entry) → is_finish j x ≡ true → x ≡ entry (finish j) accepted
 unfolding is_finish to_finish
-finish_entry j (entry (release v i) a) e = absurd (false≢true e)
+finish_entry j (entry (release i) a) e = absurd (false≢true e)
 finish_entry j (entry tick a) e = absurd (false≢true e)
-finish_entry j (entry (finish v i) a) e = (v, accepted_entry (finish v) i j a e)
+finish_entry j (entry (finish i) a) e = accepted_entry finish i j a e
 
 -- and one that counts as a release of j an accepted release of j
-pub release_entry : (j : ℕ) (x : Entry) → is_release j x ≡ true → (v : ℕ) × (x ≡ entry (release v j) accepted)
+pub release_entry : (j : ℕ) (x : Entry) → is_release j x ≡ true → x ≡ entry (release j) accepted
 unfolding is_release to_release
-release_entry j (entry (finish v i) a) e = absurd (false≢true e)
+release_entry j (entry (finish i) a) e = absurd (false≢true e)
 release_entry j (entry tick a) e = absurd (false≢true e)
-release_entry j (entry (release v i) a) e = (v, accepted_entry (release v) i j a e)
+release_entry j (entry (release i) a) e = accepted_entry release i j a e
 
 -- each entry of a log has the answer that its call gets at the state before it
 unfoldable pub Logged : {S : Type 0} → (Call → S → Answer) → (Call → S → S) → S → List Entry → Type 0

@@ -3,24 +3,24 @@
 use Prim.Native.Nat.{ℕ, zero, suc, ◌+◌, ◌-◌, ◌≤◌, ◌<◌, min}
 use mathlib.Core.Path.{◌≡◌, refl, sym, ap, subst, ◌∙◌}
 use mathlib.Core.Logic.{◌⊎◌, inl, inr, ⊎_elim}
-use mathlib.Core.Bool.{Bool, true, false, cond, ◌&&◌, and-false, false≢true}
+use mathlib.Core.Bool.{Bool, true, false, cond, ◌&&◌, false≢true}
 use mathlib.Core.List.{List, [], ◌∷◌, map}
 use native.Mathlib.Omega.{arith}
-use lib.Dec.{leb, ltb, eqb}
+use lib.Dec.{ltb, eqb}
 use lib.ListN.{length, take, get_or-map}
-use borrow.Author.Tests.{lt-ltb, le-ltb, lt-leb, eqb-true, eqb-false, eq-eqb, ne_eqb}
+use borrow.Author.Tests.{lt-ltb, le-ltb, eqb-true, eqb-false, eq-eqb, ne_eqb}
 use Rattle.sheet.proofs.Ranges.{both}
 use Rattle.fit.specs.Lists.{Each, EachPair}
 use Rattle.fit.proofs.Lists.{each_of, each_at}
 use Rattle.timing.specs.declared.Task.{Task}
-use Rattle.timing.specs.Tasks.{pending, named, allowed, with_job, released, finished, used, older}
-use Rattle.timing.specs.Calls.{Call, release, finish, tick, Answer, refused, answer_by, of_first, modify, next_by, Stroke, no_stroke, stroke_of, turn_at, turn, stroke_ticks, stroke_ticked, stroke_finished, State, next_stroke, answer, next, run}
+use Rattle.timing.specs.Tasks.{pending, named, with_job, released, finished, used, older}
+use Rattle.timing.specs.Calls.{Call, release, finish, tick, Answer, refused, release_answer, finish_answer, answer_by, of_first, modify, next_by, Stroke, no_stroke, stroke_of, turn_at, turn, stroke_ticks, stroke_ticked, stroke_finished, State, next_stroke, answer, next, run}
 use Rattle.timing.specs.Form.{Distinct, Form}
 use Rattle.timing.specs.Serving.{nth, no_task}
 use Rattle.timing.specs.Strokes.{StrokeIs, StateForm}
 use Rattle.timing.proofs.Lists.{zero_or_pos}
 use Rattle.timing.proofs.Runs.{run_kept}
-use Rattle.timing.proofs.Steps.{finish_reply, absent_reply, released_cases, changed, changed_release, changed_finish, changed_nth, changed_found, changed_tick, changed_answer, Finish, cannot, may_not, is_quiet, ends, finish_view, Changed, nowhere, here, later, bare, bare_next, length_next}
+use Rattle.timing.proofs.Steps.{released_cases, changed, changed_named, changed_nth, changed_found, changed_tick, changed_answer, Finish, is_quiet, ends, finish_view, Changed, nowhere, here, later, bare, bare_next, length_next}
 use Rattle.timing.proofs.Form.{form_kept}
 use Rattle.timing.proofs.Own.{Own}
 
@@ -43,18 +43,18 @@ stroke_of_lem P j zero h k = h
 stroke_of_lem P j (suc r) h k = k (omega arith)
 
 -- a finish leaves the stroke or ends it
-pub finish_stroke : (v j : ℕ) (s : State) → (next_stroke (finish v j) s ≡ s.stroke) ⊎ (next_stroke (finish v j) s ≡ no_stroke)
+pub finish_stroke : (j : ℕ) (s : State) → (next_stroke (finish j) s ≡ s.stroke) ⊎ (next_stroke (finish j) s ≡ no_stroke)
 unfolding next_stroke
-finish_stroke v j s = ⊎_elim inl (λ x. go (allowed v (nth s.tasks x.0) && (pending (nth s.tasks x.0) && eqb s.stroke.task (nth s.tasks x.0).number)) x.4) (changed_found (changed (named j) (finished v) (stroke_finished v s.stroke) s.stroke s.tasks))
+finish_stroke j s = ⊎_elim inl (λ x. go (pending (nth s.tasks x.0) && eqb s.stroke.task (nth s.tasks x.0).number) x.4) (changed_found (changed (named j) finished (stroke_finished s.stroke) s.stroke s.tasks))
   where
-    go : (b : Bool) → next_stroke (finish v j) s ≡ cond b no_stroke s.stroke → (next_stroke (finish v j) s ≡ s.stroke) ⊎ (next_stroke (finish v j) s ≡ no_stroke)
+    go : (b : Bool) → next_stroke (finish j) s ≡ cond b no_stroke s.stroke → (next_stroke (finish j) s ≡ s.stroke) ⊎ (next_stroke (finish j) s ≡ no_stroke)
     go true e = inr e
     go false e = inl e
 
--- the finish of a task in its stroke ends it, or leaves the task as it is
-own_finish : (v : ℕ) (k : Stroke) (t : Task) → StrokeIs k t → (stroke_finished v k t ≡ no_stroke) ⊎ (finished v t ≡ t)
-unfolding pending finished
-own_finish v k t h = elim (allowed v t) as (λ b. (cond (b && (ltb 0 t.left && eqb k.task t.number)) no_stroke k ≡ no_stroke) ⊎ (cond b (cond (ltb 0 t.left) (with_job t t.age 0) t) t ≡ t)) [ true ↦ inl (rw (lt-ltb 0 t.left h.pends, eq-eqb k.task t.number (sym h.number))) | false ↦ inr refl ]
+-- the finish of a task in its stroke ends it
+own_finish : (k : Stroke) (t : Task) → StrokeIs k t → stroke_finished k t ≡ no_stroke
+unfolding pending
+own_finish k t h = rw (lt-ltb 0 t.left h.pends, eq-eqb k.task t.number (sym h.number))
 
 -- inside a stroke a tick goes to the task of its number
 pub turn_named : (k : Stroke) (t : Task) → 0 < k.left → turn k t ≡ true → t.number ≡ k.task
@@ -135,18 +135,18 @@ ticks_most s f i lt e = ⊎_elim (λ z. let x = ticks_begun s.stroke.left t z in
         let x = ticks_lasting s.stroke.left t p in
         (omega (arith, x, w.length_max), omega (arith, x, w.job_max))
 
-lasts_release : (v j : ℕ) (s : State) → StateForm s → 0 < s.stroke.left → (i : ℕ) × (i < length s.tasks) × StrokeIs s.stroke (nth (next (release v j) s).tasks i)
+lasts_release : (j : ℕ) (s : State) → StateForm s → 0 < s.stroke.left → (i : ℕ) × (i < length s.tasks) × StrokeIs s.stroke (nth (next (release j) s).tasks i)
 unfolding next next_by
-lasts_release v j s f p =
+lasts_release j s f p =
     let w = f.lasts p in
-    (w.0, w.1, subst (StrokeIs s.stroke) (sym (⊎_elim (λ x. x) (λ x. x.1 ∙ released_cases (λ u. u ≡ nth s.tasks w.0) v (nth s.tasks w.0) refl (λ old z. absurd (omega (arith, w.2.pends)))) (changed_nth w.0 (changed_release (turn s.stroke) v j s.tasks)))) w.2)
+    (w.0, w.1, subst (StrokeIs s.stroke) (sym (⊎_elim (λ x. x) (λ x. x.1 ∙ released_cases (λ u. u ≡ nth s.tasks w.0) (nth s.tasks w.0) refl (λ old z. absurd (omega (arith, w.2.pends)))) (changed_nth w.0 (changed_named j released release_answer s.tasks)))) w.2)
 
 -- the task of a stroke that a finish leaves stays as it is
-lasts_finish : (v j : ℕ) (s : State) → StateForm s → 0 < s.stroke.left → 0 < (next_stroke (finish v j) s).left → (i : ℕ) × (i < length s.tasks) × StrokeIs s.stroke (nth (next (finish v j) s).tasks i)
+lasts_finish : (j : ℕ) (s : State) → StateForm s → 0 < s.stroke.left → 0 < (next_stroke (finish j) s).left → (i : ℕ) × (i < length s.tasks) × StrokeIs s.stroke (nth (next (finish j) s).tasks i)
 unfolding next next_by next_stroke
-lasts_finish v j s f p h =
+lasts_finish j s f p h =
     let w = f.lasts p in
-    (w.0, w.1, subst (StrokeIs s.stroke) (sym (⊎_elim (λ x. x) (λ x. ⊎_elim (λ y. absurd (omega (arith, h, ap (λ k. k.left) (x.2 ∙ y)))) (λ y. x.1 ∙ y) (own_finish v s.stroke _ w.2)) (changed_nth w.0 (changed (named j) (finished v) (stroke_finished v s.stroke) s.stroke s.tasks)))) w.2)
+    (w.0, w.1, subst (StrokeIs s.stroke) (sym (⊎_elim (λ x. x) (λ x. absurd (omega (arith, h, ap (λ k. k.left) (x.2 ∙ own_finish s.stroke _ w.2)))) (changed_nth w.0 (changed (named j) finished (stroke_finished s.stroke) s.stroke s.tasks)))) w.2)
 
 -- the task of a stroke after a tick
 ticked_is : (s : State) → StateForm s → (i : ℕ) → i < length s.tasks → turn s.stroke (nth s.tasks i) ≡ true → nth (next tick s).tasks i ≡ older (used (nth s.tasks i)) → 0 < stroke_ticks s.stroke.left (nth s.tasks i) - 1 → StrokeIs (record { task = (nth s.tasks i).number; left = stroke_ticks s.stroke.left (nth s.tasks i) - 1 }) (nth (next tick s).tasks i)
@@ -165,14 +165,14 @@ length_tasks c s = length_next _ c s.tasks
 
 lasts_kept : (c : Call) (s : State) → StateForm s → Lasts (next_stroke c s) (next c s).tasks
 unfolding next_stroke
-lasts_kept (release v j) s f p = let w = lasts_release v j s f p in (w.0, omega (arith, w.1, length_tasks (release v j) s), w.2)
-lasts_kept (finish v j) s f p = ⊎_elim (λ e. let w = lasts_finish v j s f (subst (λ k. 0 < k.left) e p) p in (w.0, omega (arith, w.1, length_tasks (finish v j) s), subst (λ k. StrokeIs k (nth (next (finish v j) s).tasks w.0)) (sym e) w.2)) (λ e. absurd (omega (arith, p, ap (λ k. k.left) e))) (finish_stroke v j s)
+lasts_kept (release j) s f p = let w = lasts_release j s f p in (w.0, omega (arith, w.1, length_tasks (release j) s), w.2)
+lasts_kept (finish j) s f p = ⊎_elim (λ e. let w = lasts_finish j s f (subst (λ k. 0 < k.left) e p) p in (w.0, omega (arith, w.1, length_tasks (finish j) s), subst (λ k. StrokeIs k (nth (next (finish j) s).tasks w.0)) (sym e) w.2)) (λ e. absurd (omega (arith, p, ap (λ k. k.left) e))) (finish_stroke j s)
 lasts_kept tick s f p = ticked_cases (λ k. Lasts k (next tick s).tasks) s f (λ p. absurd (omega arith)) (λ i lt e n m p. (i, omega (arith, lt, length_tasks tick s), ticked_is s f i lt e n m)) p
 
 none_kept : (c : Call) (s : State) → StateForm s → (next_stroke c s).left ≡ 0 → (next_stroke c s).task ≡ 0
 unfolding next_stroke
-none_kept (release v j) s f z = f.none z
-none_kept (finish v j) s f z = ⊎_elim (λ e. ap (λ k. k.task) e ∙ f.none (sym (ap (λ k. k.left) e) ∙ z)) (λ e. ap (λ k. k.task) e) (finish_stroke v j s)
+none_kept (release j) s f z = f.none z
+none_kept (finish j) s f z = ⊎_elim (λ e. ap (λ k. k.task) e ∙ f.none (sym (ap (λ k. k.left) e) ∙ z)) (λ e. ap (λ k. k.task) e) (finish_stroke j s)
 none_kept tick s f z = ticked_cases (λ k. k.left ≡ 0 → k.task ≡ 0) s f (λ z. refl) (λ i lt e n m z. absurd (omega arith)) z
 
 -- each call hands back a state in form
@@ -184,26 +184,23 @@ pub state_form_run : (cs : List Call) (s : State) → StateForm s → StateForm 
 state_form_run cs s f = run_kept next StateForm state_form_kept cs s f
 
 -- a refused call changes no stroke
-stroke_refused : (v : ℕ) (k : Stroke) (t : Task) (n p : ℕ) → finish_reply v t ≡ refused n p → stroke_finished v k t ≡ k
-unfolding pending allowed
-stroke_refused v k t n p e = go (finish_view v t) e
+finish_kept : (j : ℕ) (k : Stroke) (n p : ℕ) (s : List Task) → of_first (named j) finish_answer (refused 17 0) s ≡ refused n p → of_first (named j) (stroke_finished k) k s ≡ k
+unfolding of_first pending
+finish_kept j k n p [] e = refl
+finish_kept j k n p (t ∷ s) e = go (named j t) e (finish_kept j k n p s)
   where
-    go : {a : Answer} {t' : Task} → Finish v t a t' → a ≡ refused n p → stroke_finished v k t ≡ k
-    go (cannot z) x = rw (lt-leb v 2 z)
-    go (may_not z) x = rw (lt-leb v t.class z, and-false)
-    go (is_quiet z) x = let none : ltb 0 t.left ≡ false = le-ltb 0 t.left (omega arith) in rw (none, and-false)
-    go (ends z) x = absurd (let y : ◌≡◌ {A = ℕ} 0 1 = cc in omega arith)
+    quiet : {a : Answer} {t' : Task} → Finish t a t' → a ≡ refused n p → stroke_finished k t ≡ k
+    quiet (is_quiet z) x = let none : ltb 0 t.left ≡ false = le-ltb 0 t.left (omega arith) in rw none
+    quiet (ends z) x = absurd (let y : ◌≡◌ {A = ℕ} 0 1 = cc in omega arith)
 
-finish_kept : (v : ℕ) (k : Stroke) (n p : ℕ) {s s' : List Task} {a : Answer} (j : ℕ) → Changed (named j) (finished v) (finish_reply v) (absent_reply v) s s' a → a ≡ refused n p → of_first (named j) (stroke_finished v k) k s ≡ k
-unfolding of_first
-finish_kept v k n p j nowhere e = refl
-finish_kept v k n p j (here {t} {s} x) e = rw x (stroke_refused v k t n p e)
-finish_kept v k n p j (later {t} {s} x c) e = rw x (finish_kept v k n p j c e)
+    go : (b : Bool) → cond b (finish_answer t) (of_first (named j) finish_answer (refused 17 0) s) ≡ refused n p → (of_first (named j) finish_answer (refused 17 0) s ≡ refused n p → of_first (named j) (stroke_finished k) k s ≡ k) → cond b (stroke_finished k t) (of_first (named j) (stroke_finished k) k s) ≡ k
+    go true x r = quiet (finish_view t) x
+    go false x r = r x
 
 pub stroke_kept : (c : Call) (s : State) (n p : ℕ) → answer c s ≡ refused n p → next_stroke c s ≡ s.stroke
 unfolding answer answer_by next_stroke
-stroke_kept (release v j) s n p e = refl
-stroke_kept (finish v j) s n p e = finish_kept v s.stroke n p j (changed_finish (turn s.stroke) v j s.tasks) e
+stroke_kept (release j) s n p e = refl
+stroke_kept (finish j) s n p e = finish_kept j s.stroke n p s.tasks e
 stroke_kept tick s n p e = changed_answer (λ a. a ≡ refused n p → next_stroke tick s ≡ s.stroke) (λ d. cc) (λ i d. cc) (changed_tick (turn s.stroke) used s.tasks) e
 
 -- What a stroke holds against a level: its ticks left where its task stands below the level, else nothing.

@@ -20,7 +20,7 @@ use Rattle.timing.specs.Serving.{nth, no_task, to_release, is_release}
 use Rattle.timing.specs.Strokes.{StateForm, Unbroken}
 use Rattle.timing.proofs.Lists.{zero_or_pos}
 use Rattle.timing.proofs.Runs.{Logged, logged_append, log_split, count_cons, count_append, run_counts, run_kept, finish_entry, count_cut}
-use Rattle.timing.proofs.Steps.{changed_release, changed_finish, changed_tick, turn_pends, changed_found, bare, bare_nth, length_next, release_started}
+use Rattle.timing.proofs.Steps.{changed_named, changed_tick, turn_pends, changed_found, bare, bare_nth, length_next, release_started}
 use Rattle.timing.proofs.Form.{form_kept, figures_kept, each_of_map}
 use Rattle.timing.proofs.Own.{Own, each_own}
 use Rattle.timing.proofs.Left.{Left, Done, Owing, owing_next, done_run, finish_done}
@@ -50,22 +50,19 @@ count_true : (q : Entry → Bool) (x : Entry) → 0 < count q (x ∷ []) → q x
 unfolding count
 count_true q x = elim (q x) as (λ b. 0 < cond b 1 0 → b ≡ true) [ true ↦ λ h. refl | false ↦ λ h. absurd (omega arith) ]
 
-finish_done_all : (v j : ℕ) (s : State) → Form s.tasks → answer (finish v j) s ≡ accepted → Each (Own j Done) (next (finish v j) s).tasks
-unfolding next answer
-finish_done_all v j s f e = each_own j Done (changed_finish (turn s.stroke) v j s.tasks) f.distinct (λ t a. finish_done v t (sym a ∙ e))
+finish_done_all : (j : ℕ) (s : State) → Form s.tasks → Each (Own j Done) (next (finish j) s).tasks
+unfolding next next_by
+finish_done_all j s f = each_own j Done (changed_named j finished finish_answer s.tasks) f.distinct (λ t a. finish_done t)
 
 -- a call before such a tick is no accepted finish of j
 no_finish : (j : ℕ) (c : Call) (l rest : List Entry) (s : State) → Form s.tasks → Logged answer next (next c s) (l ++ entry tick (served j) ∷ rest) → count (is_release j) l ≡ 0 → count (is_finish j) (entry c (answer c s) ∷ []) ≡ 0
 unfolding count is_finish to_finish
-no_finish j (release v i) l rest s f h z = refl
+no_finish j (release i) l rest s f h z = refl
 no_finish j tick l rest s f h z = refl
-no_finish j (finish v i) l rest s f h z = ⊎_elim (λ e. e) (λ p. let e = finish_entry j _ (count_true (is_finish j) (entry (finish v i) (answer (finish v i) s)) p) in absurd (not_done j l rest (next (finish v i) s) h z (subst (λ m. Each (Own m Done) (next (finish v i) s).tasks) (named_same e.1) (finish_done_all v i s f (answered e.1))))) (zero_or_pos (count (is_finish j) (entry (finish v i) (answer (finish v i) s) ∷ [])))
+no_finish j (finish i) l rest s f h z = ⊎_elim (λ e. e) (λ p. absurd (not_done j l rest (next (finish i) s) h z (subst (λ m. Each (Own j Done) (next (finish m) s).tasks) (named_same (finish_entry j _ (count_true (is_finish j) (entry (finish i) (answer (finish i) s)) p))) (finish_done_all j s f)))) (zero_or_pos (count (is_finish j) (entry (finish i) (answer (finish i) s) ∷ [])))
   where
-    named_same : {m : ℕ} {a b : Answer} → entry (finish v i) a ≡ entry (finish m j) b → i ≡ j
+    named_same : {a b : Answer} → entry (finish i) a ≡ entry (finish j) b → j ≡ i
     named_same e = cc
-
-    answered : {m : ℕ} {a b : Answer} → entry (finish v i) a ≡ entry (finish m j) b → a ≡ b
-    answered e = cc
 
 -- so over it the job gets what is answered with j
 owing_step : (j n : ℕ) (c : Call) (a : Answer) (l rest : List Entry) (s : State) → Logged answer next s (entry c a ∷ (l ++ entry tick (served j) ∷ rest)) → count (is_release j) (entry c a ∷ l) ≡ 0 → Owing j n s.tasks → Owing j (n + count (is_run j) (entry c a ∷ [])) (next c s).tasks
@@ -135,8 +132,8 @@ unbroken_from j q i n m d (entry c a ∷ l) rest s h o k z e pos lt =
     waits = ⊎_elim (λ y. absurd (not_done j (entry c a ∷ l) rest s k z (subst (λ x. Each (Own x Done) s.tasks) h.number (own_of_place Done s.tasks i h.form.tasks.distinct h.place y)))) (λ p. p) (zero_or_pos (nth s.tasks i).left)
 
     own : (b : Call) → c ≡ b → count is_tick (entry c a ∷ []) ≡ count (is_run j) (entry c a ∷ [])
-    own (release v x) y = rw y refl
-    own (finish v x) y = rw y refl
+    own (release x) y = rw y refl
+    own (finish x) y = rw y refl
     own tick y = rw y (sym (run_counts j j a refl (rw y at k.0 ∙ part_next j q i n m d s h o waits e pos (omega arith))))
 
 -- two ticks x and x + 1 + y of one stroke of q: after the first, x / q strokes and x % q + 1 ticks were given
@@ -161,9 +158,9 @@ going_kept q c s g = record {
 }
 
 -- an accepted release begins a job that was given nothing
-owing_begun : (v j : ℕ) (s : State) → Form s.tasks → answer (release v j) s ≡ accepted → Owing j 0 (next (release v j) s).tasks
+owing_begun : (j : ℕ) (s : State) → Form s.tasks → answer (release j) s ≡ accepted → Owing j 0 (next (release j) s).tasks
 unfolding next answer next_by answer_by with_job
-owing_begun v j s f a = record { form = form_kept (turn s.stroke) (release v j) s.tasks f; left = each_own j (Left 0) (changed_release (turn s.stroke) v j s.tasks) f.distinct (λ t x. rw (release_started v t (sym x ∙ a)) (omega arith)) }
+owing_begun j s f a = record { form = form_kept (turn s.stroke) (release j) s.tasks f; left = each_own j (Left 0) (changed_named j released release_answer s.tasks) f.distinct (λ t x. rw (release_started t (sym x ∙ a)) (omega arith)) }
 
 -- From a tick answered with j on: where the job was given x ticks before it, and the one after ys is of the same stroke.
 from_tick : (q : ℕ → ℕ) (j x : ℕ) (ys rest : List Entry) (s : State) → Going q s → Owing j x s.tasks → Logged answer next s (entry tick (served j) ∷ (ys ++ entry tick (served j) ∷ rest)) → count (is_release j) ys ≡ 0 → x / q j ≡ (x + 1 + count (is_run j) ys) / q j → count is_tick ys ≡ count (is_run j) ys
@@ -179,12 +176,12 @@ from_tick q j x ys rest s g o k z e =
 -- From a fresh state in form no log has a broken stroke.
 pub unbroken : (q : ℕ → ℕ) (s : State) → StateForm s → Each Fresh s.tasks → Each (λ t. q t.number ≡ t.stroke) s.tasks → (cs : List Call) → Unbroken q (log answer next s cs)
 unfolding Logged
-unbroken q s f h u cs before xs ys rest v j e z y same =
+unbroken q s f h u cs before xs ys rest j e z y same =
     let r = log_split answer next cs s before _ e in
     let s₀ : State = run next s (calls before) in
     let g₀ : Going q s₀ = run_kept next (Going q) (going_kept q) (calls before) s (record { form = f; aligned = each_of s.tasks (λ t k p. absurd (omega (arith, k.left))) h; strokes = u }) in
-    let s₁ : State = next (release v j) s₀ in
+    let s₁ : State = next (release j) s₀ in
     let x = logged_append answer next xs (entry tick (served j) ∷ (ys ++ entry tick (served j) ∷ rest)) s₁ r.1.1 in
-    let g₂ = run_kept next (Going q) (going_kept q) (calls xs) s₁ (going_kept q (release v j) s₀ g₀) in
-    let o = owing_over j 0 xs (ys ++ entry tick (served j) ∷ rest) s₁ r.1.1 z (owing_begun v j s₀ g₀.form.tasks (sym r.1.0)) in
+    let g₂ = run_kept next (Going q) (going_kept q) (calls xs) s₁ (going_kept q (release j) s₀ g₀) in
+    let o = owing_over j 0 xs (ys ++ entry tick (served j) ∷ rest) s₁ r.1.1 z (owing_begun j s₀ g₀.form.tasks (sym r.1.0)) in
     from_tick q j (count (is_run j) xs) ys rest (run next s₁ (calls xs)) g₂ (subst (λ n. Owing j n (run next s₁ (calls xs)).tasks) (omega arith) o) x.1 y same

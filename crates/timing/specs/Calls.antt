@@ -1,14 +1,13 @@
--- Calls on a core, their answers, the state that each hands back, and the log of a list of calls (docs/SHEET.md, sections 6, 7, 14 and
--- 16).
+-- Calls on a core, their answers, the state that each hands back, and the log of a list of calls (docs/SHEET.md, sections 6, 7 and 14).
 -- A core's state is here the list of its tasks in priority order and the stroke that lasts.
-use Rattle.std.specs.Prelude.{ℕ, zero, suc, ◌-◌, min, Bool, cond, ◌&&◌, List, [], ◌∷◌, map, ltb, eqb}
+use Rattle.std.specs.Prelude.{ℕ, zero, suc, ◌-◌, min, Bool, cond, ◌&&◌, List, [], ◌∷◌, map, eqb}
 use Rattle.timing.specs.declared.Task.{Task}
-use Rattle.timing.specs.Tasks.{pending, early, named, allowed, released, finished, used, older}
+use Rattle.timing.specs.Tasks.{pending, early, named, released, finished, used, older}
 
--- the calls: a release or a finish by a caller of a class, of a task's number, and a tick, which names no class
+-- the calls: a release or a finish of a number, and a tick
 pub data Call : Type 0 where
-  release : (class number : ℕ) → Call
-  finish : (class number : ℕ) → Call
+  release : ℕ → Call
+  finish : ℕ → Call
   tick : Call
 
 -- the answers: a release or a finish is accepted, a tick goes to a task's number or is idle, a call is refused with a number and a place
@@ -18,21 +17,13 @@ pub data Answer : Type 0 where
   idle : Answer
   refused : ℕ → ℕ → Answer
 
--- a call by class v, with the answer a where the class is 0 to 2: 27 Class where it is above, with place 0
-unfoldable pub by_class : ℕ → Answer → Answer
-by_class v a = cond (ltb 2 v) (refused 27 0) a
+-- a release of a task that is there: 18 Early, then 19 Late, else accepted
+unfoldable pub release_answer : Task → Answer
+release_answer t = cond (early t) (refused 18 t.number) (cond (pending t) (refused 19 t.number) accepted)
 
--- a call by class v on a task, with the answer a where the caller may act on it: 26 Rights where the task's class is lower, with place 0
-unfoldable pub by_rights : ℕ → Task → Answer → Answer
-by_rights v t a = cond (ltb t.class v) (refused 26 0) a
-
--- a release by class v of a task that is there: 26 Rights, then 18 Early, then 19 Late, else accepted
-unfoldable pub release_answer : ℕ → Task → Answer
-release_answer v t = by_rights v t (cond (early t) (refused 18 t.number) (cond (pending t) (refused 19 t.number) accepted))
-
--- a finish by class v of a task that is there: 26 Rights, then 20 Quiet where nothing is pending, else accepted
-unfoldable pub finish_answer : ℕ → Task → Answer
-finish_answer v t = by_rights v t (cond (pending t) accepted (refused 20 t.number))
+-- a finish of a task that is there: 20 Quiet where nothing is pending, else accepted
+unfoldable pub finish_answer : Task → Answer
+finish_answer t = cond (pending t) accepted (refused 20 t.number)
 
 -- a tick that goes to a task is answered with its number
 abbrev pub tick_answer : Task → Answer
@@ -48,18 +39,18 @@ unfoldable pub modify : (Task → Bool) → (Task → Task) → List Task → Li
 modify q f [] = []
 modify q f (t ∷ s) = cond (q t) (f t ∷ s) (t ∷ modify q f s)
 
--- what a call answers where a tick goes to the first task that passes q: a release or finish 27 by its class, then it goes to the task with
--- the number, 17 Unlisted where there is none; a tick is idle where none passes
+-- what a call answers where a tick goes to the first task that passes q: a release or finish goes to the task with the number, 17 Unlisted
+-- where there is none; a tick is idle where none passes
 unfoldable pub answer_by : (Task → Bool) → Call → List Task → Answer
-answer_by q (release v j) s = by_class v (of_first (named j) (release_answer v) (refused 17 0) s)
-answer_by q (finish v j) s = by_class v (of_first (named j) (finish_answer v) (refused 17 0) s)
+answer_by q (release j) s = of_first (named j) release_answer (refused 17 0) s
+answer_by q (finish j) s = of_first (named j) finish_answer (refused 17 0) s
 answer_by q tick s = of_first q tick_answer idle s
 
 -- the tasks that a call hands back: a release or finish changes the task with the number; a tick takes one tick from the first task that
 -- passes q, and then every age rises
 unfoldable pub next_by : (Task → Bool) → Call → List Task → List Task
-next_by q (release v j) s = modify (named j) (released v) s
-next_by q (finish v j) s = modify (named j) (finished v) s
+next_by q (release j) s = modify (named j) released s
+next_by q (finish j) s = modify (named j) finished s
 next_by q tick s = map older (modify q used s)
 
 -- a stroke: the number of its task and the ticks left to it
@@ -94,9 +85,9 @@ stroke_ticks (suc r) t = suc r
 abbrev pub stroke_ticked : Stroke → Task → Stroke
 stroke_ticked k t = stroke_of t.number (stroke_ticks k.left t - 1)
 
--- the stroke after a finish of a task by class v: it ends with its own job
-abbrev pub stroke_finished : ℕ → Stroke → Task → Stroke
-stroke_finished v k t = cond (allowed v t && (pending t && eqb k.task t.number)) no_stroke k
+-- the stroke after a finish of a task: it ends with its own job
+abbrev pub stroke_finished : Stroke → Task → Stroke
+stroke_finished k t = cond (pending t && eqb k.task t.number) no_stroke k
 
 -- a core's state: its tasks in priority order, and the stroke that lasts
 pub record State : Type 0 where
@@ -105,8 +96,8 @@ pub record State : Type 0 where
 
 -- the stroke that a call hands back: a release changes none, nor does a finish or a tick that goes to no task
 unfoldable pub next_stroke : Call → State → Stroke
-next_stroke (release v j) s = s.stroke
-next_stroke (finish v j) s = of_first (named j) (stroke_finished v s.stroke) s.stroke s.tasks
+next_stroke (release j) s = s.stroke
+next_stroke (finish j) s = of_first (named j) (stroke_finished s.stroke) s.stroke s.tasks
 next_stroke tick s = of_first (turn s.stroke) (stroke_ticked s.stroke) s.stroke s.tasks
 
 -- what a call answers, and the state that it hands back

@@ -5,7 +5,7 @@ use Rattle.fit.specs.Priority.{Higher}
 use Rattle.timing.specs.declared.Task.{Task}
 
 -- a task's own fields: its number at most 63, period 1 to 60,000, budget 1 to the period, age at most the period, ticks left at most the
--- budget, stroke length 1 to the budget, class at most 2
+-- budget, stroke length 1 to the budget
 pub record Sound (t : Task) : Type 0 where
   pub number_max : t.number ≤ 63
   pub period_min : 1 ≤ t.period
@@ -16,7 +16,6 @@ pub record Sound (t : Task) : Type 0 where
   pub left_max : t.left ≤ t.budget
   pub stroke_min : 1 ≤ t.stroke
   pub stroke_max : t.stroke ≤ t.budget
-  pub class_max : t.class ≤ 2
 
 -- two tasks have different numbers
 unfoldable pub Distinct : Task → Task → Type 0

@@ -9,13 +9,13 @@ count q (x ∷ l) = cond (q x) (count q l + 1) (count q l)
 
 -- tests of a call: it is a tick, it is a finish of j
 unfoldable pub to_tick : Call → Bool
-to_tick (release v j) = false
-to_tick (finish v j) = false
+to_tick (release j) = false
+to_tick (finish j) = false
 to_tick tick = true
 
 unfoldable pub to_finish : ℕ → Call → Bool
-to_finish j (release v i) = false
-to_finish j (finish v i) = eqb i j
+to_finish j (release i) = false
+to_finish j (finish i) = eqb i j
 to_finish j tick = false
 
 -- tests of an answer: the tick went to j, accepted, refused with number n
@@ -58,10 +58,9 @@ is_refused n (entry c a) = refused_with n a
 unfoldable pub Ended : ℕ → ℕ → List Entry → Type 0
 Ended e j l = (e ≤ count (is_run j) l) ⊎ (1 ≤ count (is_finish j) l)
 
--- Wherever a release of task j with budget e, by whatever class, was accepted in the log l and w ticks follow it, the job has ended by the
--- w-th of them.
+-- Wherever a release of task j with budget e was accepted in the log l and w ticks follow it, the job has ended by the w-th of them.
 abbrev pub EndsBy : (w e j : ℕ) → List Entry → Type 0
-EndsBy w e j l = (v : ℕ) (before xs rest : List Entry) (a : Answer) → l ≡ before ++ entry (release v j) accepted ∷ (xs ++ entry tick a ∷ rest) → count is_tick xs + 1 ≡ w → Ended e j (xs ++ entry tick a ∷ [])
+EndsBy w e j l = (before xs rest : List Entry) (a : Answer) → l ≡ before ++ entry (release j) accepted ∷ (xs ++ entry tick a ∷ rest) → count is_tick xs + 1 ≡ w → Ended e j (xs ++ entry tick a ∷ [])
 
 -- The rule for a whole log, with w and e by task number: this holds of every task, and no call is refused as Late (19).
 pub record OnTime (w e : ℕ → ℕ) (l : List Entry) : Type 0 where

@@ -34,15 +34,14 @@ pub record TickGoes (s : State) (a : Answer) : Type 0 where
 -- where m / q is n / q. Between two ticks of one stroke every tick is the task's own.
 abbrev pub Unbroken : (q : ℕ → ℕ) → List Entry → Type 0
 Unbroken q l =
-    (before xs ys rest : List Entry) (v j : ℕ) → l ≡ before ++ entry (release v j) accepted ∷ (xs ++ entry tick (served j) ∷ (ys ++ entry tick (served j) ∷ rest)) → count (is_release j) xs ≡ 0 → count (is_release j) ys ≡ 0 → count (is_run j) xs / q j ≡ (count (is_run j) xs + 1 + count (is_run j) ys) / q j → count is_tick ys ≡ count (is_run j) ys
+    (before xs ys rest : List Entry) (j : ℕ) → l ≡ before ++ entry (release j) accepted ∷ (xs ++ entry tick (served j) ∷ (ys ++ entry tick (served j) ∷ rest)) → count (is_release j) xs ≡ 0 → count (is_release j) ys ≡ 0 → count (is_run j) xs / q j ≡ (count (is_run j) xs + 1 + count (is_run j) ys) / q j → count is_tick ys ≡ count (is_run j) ys
 
 -- A job of task j with budget e is pending after the log l, and was given n ticks: over the entries since the last accepted release of j it
 -- has not ended, and n of them are ticks answered with j.
 pub record PendingAfter (e j n : ℕ) (l : List Entry) : Type 0 where
   pub before : List Entry
   pub since : List Entry
-  pub class : ℕ
-  pub split : l ≡ before ++ entry (release class j) accepted ∷ since
+  pub split : l ≡ before ++ entry (release j) accepted ∷ since
   pub last : count (is_release j) since ≡ 0
   pub given : count (is_run j) since ≡ n
   pub not_ended : Ended e j since → ⊥

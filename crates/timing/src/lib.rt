@@ -1,5 +1,4 @@
-// One task of a core as the dispatcher keeps it: its period and budget, its age, the ticks left of its job, its number, stroke length and
-// class: 0 maker, 1 owner, 2 guest.
+// One task of a core as the dispatcher keeps it: its period and budget, its age, the ticks left of its job, its number and stroke length.
 // The definitions in specs/ and the theorems in proofs/ are about lists of these, in priority order.
 #[repr(C)]
 #[derive(Drop)]
@@ -10,5 +9,4 @@ pub struct Task {
     pub left: u16,
     pub number: u8,
     pub stroke: u8,
-    pub class: u8,
 }

@@ -65,7 +65,7 @@ mod sys;
 pub use job::Job;
 pub use number::LAYOUT;
 pub use refusal::{Place, Refusal, Word};
-pub use running::{tick_row, Class, Core, Stroke, Task};
+pub use running::{tick_row, Core, Stroke, Task};
 pub use sheet::{Sheet, SheetCore, SheetTask};
 
 /// Bytes of the longest sheet.

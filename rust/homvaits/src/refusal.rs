@@ -89,7 +89,7 @@ macro_rules! words {
                 }
             }
 
-            /// The number of the word, 1 to 27.
+            /// The number of the word, 1 to 25.
             #[must_use]
             pub const fn number(self) -> u8 {
                 match self {
@@ -131,7 +131,7 @@ words! {
     2 Mark "Mark" Whole "the bytes do not begin with T S H"
     3 Version "Version" Whole "the version is not 1, 2 or 3, or it is 3 and the sheet was to be moved"
     4 Count "Count" Whole "there are over 64 tasks, over 8 cores or a core limit above 8"
-    5 Length "Length" Whole "the length is not the one that the counts give, or there are more or fewer classes than tasks"
+    5 Length "Length" Whole "the length is not the one that the counts give"
     6 Spare "Spare" Offset "a spare byte is not zero"
     7 Period "Period" Task "the period is not 1 to 60,000"
     8 Budget "Budget" Task "the budget is 0 or above the period"
@@ -152,8 +152,6 @@ words! {
     23 Order "Order" Whole "the old numbers, the task counts or the order of a core's tasks are wrong"
     24 Row "Row" Whole "there are fewer answer bytes than core states"
     25 Stroke "Stroke" Task "the stroke length is 0 or above the budget"
-    26 Rights "Rights" Whole "the task is of a class above the caller's"
-    27 Class "Class" Whole "a class is above 2"
 }
 
 impl Refusal {
@@ -186,7 +184,7 @@ impl Refusal {
         }
     }
 
-    /// The number of the word, 1 to 27. The place's is [`Place::number`].
+    /// The number of the word, 1 to 25. The place's is [`Place::number`].
     #[must_use]
     pub const fn number(self) -> u8 {
         self.word.number()
@@ -228,7 +226,7 @@ mod tests {
                 assert_eq!((refusal.number(), refusal.place.number()), (number, place));
             }
             let known = !matches!(Word::of(number), Word::Other(_));
-            assert_eq!(known, number <= 27);
+            assert_eq!(known, number <= 25);
         }
         assert_eq!(Refusal::unless_zero(0, 0), Ok(()));
     }
@@ -236,8 +234,8 @@ mod tests {
     #[test]
     fn what_only_another_library_gives_is_shown_as_it_came() {
         assert_eq!(
-            Refusal::of(28, 70).to_string(),
-            "refused 28 (unknown) at place 70: the library is of another version"
+            Refusal::of(26, 70).to_string(),
+            "refused 26 (unknown) at place 70: the library is of another version"
         );
         assert_eq!(Refusal::of(1, 70).place, Place::Other(70));
         assert_eq!(Refusal::of(23, 1).place, Place::Other(1));

@@ -20,40 +20,6 @@ pub struct Task {
     /// Its stroke length: once a job of it has a tick, it keeps the core for so many ticks in all, or until it ends. 1 but for tasks of a
     /// version 3 sheet.
     pub stroke: u8,
-    /// The number of its [`Class`]: who may release and finish it.
-    pub class: u8,
-}
-
-/// Who loaded a task, and who calls. A caller may release and finish tasks of its own class and of those after it: the maker all, an owner
-/// those of owners and guests, a guest those of guests.
-#[repr(u8)]
-#[derive(Clone, Copy, Debug, PartialEq, Eq, PartialOrd, Ord, Hash)]
-pub enum Class {
-    /// Number 0.
-    Maker = 0,
-    /// Number 1.
-    Owner = 1,
-    /// Number 2. On the bench every task is a guest's.
-    Guest = 2,
-}
-
-impl Class {
-    /// The class of a number, 0 to 2.
-    #[must_use]
-    pub const fn of(number: u8) -> Option<Class> {
-        match number {
-            0 => Some(Class::Maker),
-            1 => Some(Class::Owner),
-            2 => Some(Class::Guest),
-            _ => None,
-        }
-    }
-
-    /// Its number, 0 to 2.
-    #[must_use]
-    pub const fn number(self) -> u8 {
-        self as u8
-    }
 }
 
 impl Task {
@@ -88,25 +54,15 @@ pub struct Core {
 }
 
 impl Core {
-    /// Starts a core of a sheet, by its number, with a class for each of its tasks in priority order (that of [`tasks`](Core::tasks)). Any of
-    /// its tasks may be released at once. A sheet and its moved sheet start alike.
+    /// Starts a core of a sheet, by its number. Any of its tasks may be released at once. A sheet and its moved sheet start alike.
     ///
     /// # Errors
     ///
-    /// [`Word::Core`] with [`Place::Whole`] if the sheet has no such core, then [`Word::Length`] if there are more or fewer classes than
-    /// tasks on it.
-    pub fn start(sheet: &Sheet, core: u8, classes: &[Class]) -> Result<Core, Refusal> {
+    /// [`Word::Core`] with [`Place::Whole`] if the sheet has no such core.
+    pub fn start(sheet: &Sheet, core: u8) -> Result<Core, Refusal> {
         let bytes = sheet.as_bytes();
-        // SAFETY: each pointer stands with the length of its own slice, which is only read. A class is a byte (`repr(u8)`).
-        let answer = unsafe {
-            sys::homvaits_start(
-                bytes.as_ptr(),
-                bytes.len(),
-                u64::from(core),
-                classes.as_ptr().cast(),
-                classes.len(),
-            )
-        };
+        // SAFETY: pointer and length are of one slice, which is only read.
+        let answer = unsafe { sys::homvaits_start(bytes.as_ptr(), bytes.len(), u64::from(core)) };
         match Core::from_step(answer) {
             // the sheet is accepted, so it is the core named here that is missing, and not a task's
             Err(refusal) if refusal.word == Word::Core => Err(Refusal {
@@ -115,16 +71,6 @@ impl Core {
             }),
             result => result,
         }
-    }
-
-    /// As [`start`](Core::start), with every task of one class: [`Class::Maker`] where there is one caller.
-    ///
-    /// # Errors
-    ///
-    /// [`Word::Core`] with [`Place::Whole`] if the sheet has no such core.
-    pub fn start_as(sheet: &Sheet, core: u8, class: Class) -> Result<Core, Refusal> {
-        let count = sheet.tasks().filter(|task| task.core == core).count();
-        Core::start(sheet, core, &[class; 64][..count.min(64)])
     }
 
     /// Starts a core from a job list without a sheet, for the bench: nothing promises that its jobs end on time, but
@@ -188,9 +134,9 @@ impl Core {
     /// In this order: [`Word::Foreign`] if the core's memory was damaged; [`Word::Unlisted`] if it has no such task; with the task
     /// [`Word::Early`] if fewer ticks than its period passed since its last accepted release, and [`Word::Late`] if its last job is
     /// still pending, which never comes on a core started from a sheet.
-    pub fn release(&mut self, class: Class, task: u8) -> Result<(), Refusal> {
+    pub fn release(&mut self, task: u8) -> Result<(), Refusal> {
         // SAFETY: no pointer is handed over; the state goes in and comes back by value.
-        let answer = unsafe { sys::homvaits_release(self.state, u64::from(class.number()), u64::from(task)) };
+        let answer = unsafe { sys::homvaits_release(self.state, u64::from(task)) };
         *self = Core::from_step(answer)?;
         Ok(())
     }
@@ -202,9 +148,9 @@ impl Core {
     ///
     /// In this order: [`Word::Foreign`] if the core's memory was damaged; [`Word::Unlisted`] if it has no such task; [`Word::Quiet`],
     /// with the task, if it has no pending job.
-    pub fn finish(&mut self, class: Class, task: u8) -> Result<(), Refusal> {
+    pub fn finish(&mut self, task: u8) -> Result<(), Refusal> {
         // SAFETY: no pointer is handed over; the state goes in and comes back by value.
-        let answer = unsafe { sys::homvaits_finish(self.state, u64::from(class.number()), u64::from(task)) };
+        let answer = unsafe { sys::homvaits_finish(self.state, u64::from(task)) };
         *self = Core::from_step(answer)?;
         Ok(())
     }

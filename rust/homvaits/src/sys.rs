@@ -82,16 +82,10 @@ extern "C" {
         out: *mut u8,
         out_len: usize,
     ) -> Planned;
-    pub fn homvaits_start(
-        sheet: *const u8,
-        len: usize,
-        core: u64,
-        classes: *const u8,
-        classes_len: usize,
-    ) -> Step;
+    pub fn homvaits_start(sheet: *const u8, len: usize, core: u64) -> Step;
     pub fn homvaits_start_list(jobs: *const u8, len: usize) -> Step;
-    pub fn homvaits_release(core: Core, class: u64, task: u64) -> Step;
-    pub fn homvaits_finish(core: Core, class: u64, task: u64) -> Step;
+    pub fn homvaits_release(core: Core, task: u64) -> Step;
+    pub fn homvaits_finish(core: Core, task: u64) -> Step;
     pub fn homvaits_tick(core: Core) -> Ticked;
     pub fn homvaits_tick_row(
         row: *mut Core,

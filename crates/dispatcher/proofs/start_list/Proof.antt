@@ -1,5 +1,5 @@
 use borrow.Author.Rules.{rules}
-use Rattle.dispatcher.proofs.Starts.{list_promises, list_refused, list_few, list_fits, list_starts}
+use Rattle.dispatcher.proofs.Starts.{list_refused, list_few, list_fits, list_starts}
 use Rattle.dispatcher.proofs.start_list.Statement.{statement}
 use Rattle.dispatcher.proofs.start_list.Tie as tie
 use Rattle.dispatcher.proofs.start_list.Reads as reads
@@ -31,10 +31,10 @@ of_list_requires : tie.Need-of-list-requires
 of_list_requires c κs = search (list_few, rules)
 
 returns : tie.Need-returns
-returns c = list_promises _ _ (search (list_refused, rules))
+returns c = search (list_refused, rules)
 
 returns_2 : tie.Need-returns-2
-returns_2 c = list_promises _ _ (search (list_starts, rules))
+returns_2 c = search (list_starts, rules)
 
 pub start_list_spec : {M : Type 1} → statement M
 start_list_spec =

@@ -45,7 +45,7 @@ refuse_requires_3 : tie.Need-refuse-requires-3
 refuse_requires_3 c κs = search rules
 
 returns_2 : tie.Need-returns-2
-returns_2 c = unaltered _ _ _ (search (release_late, array_length, c.before.before.before.before.before.before.before.before.before.before.before.well-formed, rules))
+returns_2 c = unaltered _ _ _ (search (release_late, array_length, rules))
 
 with_job_requires : tie.Need-with-job-requires
 with_job_requires c κs = search rules
