@@ -1,5 +1,7 @@
 // The C interface, declared in include/homvaits.h. Every call is total; `refusal` is 0 where nothing is refused, else the refusal's number
 // (docs/SHEET.md, section 9); fields that do not apply are 0.
+#![tactic(auto)]
+
 ghost use Rattle.std.specs.Prelude.{◌≡◌, List, length, take};
 ghost use Rattle.checker.specs.Verdict.{verdict, accepted};
 ghost use Rattle.planner.specs.Plan.{plan_outcome, plan_output};
@@ -28,7 +30,7 @@ use row::RowAnswer;
 use state::{Answer, Core, Step};
 
 #[repr(C)]
-#[derive(Drop)]
+#[derive(Clone, Copy)]
 pub struct Checked {
     pub refusal: u8,
     pub place: u16,
@@ -37,7 +39,7 @@ pub struct Checked {
 }
 
 #[repr(C)]
-#[derive(Drop)]
+#[derive(Clone, Copy)]
 pub struct PlanAnswer {
     pub refusal: u8,
     pub place: u16,
@@ -47,7 +49,7 @@ pub struct PlanAnswer {
 }
 
 #[repr(C)]
-#[derive(Drop)]
+#[derive(Clone, Copy)]
 pub struct ListAnswer {
     pub refusal: u8,
     pub place: u16,
@@ -55,7 +57,7 @@ pub struct ListAnswer {
 }
 
 #[repr(C)]
-#[derive(Drop)]
+#[derive(Clone, Copy)]
 pub struct MoveAnswer {
     pub refusal: u8,
     pub place: u16,
@@ -63,7 +65,7 @@ pub struct MoveAnswer {
 }
 
 #[repr(C)]
-#[derive(Drop)]
+#[derive(Clone, Copy)]
 pub struct StepAnswer {
     pub refusal: u8,
     pub place: u16,
@@ -72,7 +74,7 @@ pub struct StepAnswer {
 
 // The bytes that C leaves free between the fields have names here: an answer that is whole is copied once less.
 #[repr(C)]
-#[derive(Drop)]
+#[derive(Clone, Copy)]
 pub struct Ticked {
     pub refusal: u8,
     pub free: u8,
@@ -84,14 +86,14 @@ pub struct Ticked {
 }
 
 #[repr(C)]
-#[derive(Drop)]
+#[derive(Clone, Copy)]
 pub struct RowTicked {
     pub refusal: u8,
     pub place: u64,
 }
 
 #[repr(C)]
-#[derive(Drop)]
+#[derive(Clone, Copy)]
 pub struct Margined {
     pub refusal: u8,
     pub place: u16,

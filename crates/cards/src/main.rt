@@ -1,6 +1,8 @@
 // Runs the cards of specs/Cards.antt, but for U, which is about the definition of the trials, Z and AD, through the code and prints a line for
 // each (three for R, one a start; for X the verdict, the mover both ways and a run; three for Y; two for AA; for AB the verdict, three runs and
 // the mover; three for AC; four for AE), then the listing of the sheets of B, C, P, X and AB.
+#![tactic(auto)]
+
 ghost use Rattle.std.specs.Prelude.{◌+◌, ◌*◌, ◌≤◌, ◌≡◌, true, length};
 ghost use Rattle.io.specs.Counts.{IsPrefixLen};
 ghost use Rattle.fit.specs.Fits.{within as withinOf};

@@ -12,7 +12,7 @@ ghost use Rattle.checker.specs.Steps.{broken, Used, sound_at, early_rows};
 use sheet::{Finding, Found, Refusal};
 
 // The rules that are tested at one task or one core.
-#[derive(Drop)]
+#[derive(Clone, Copy)]
 enum Test {
     Period,
     Budget,

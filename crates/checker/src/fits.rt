@@ -14,7 +14,7 @@ use fit::Chain;
 use sheet::{Finding, Refusal};
 
 // What rules 13 and 14 say of a core: its chain is whole, and the load at some task is over one or not, or its chain is broken at a task.
-#[derive(Drop)]
+#[derive(Clone, Copy)]
 enum Judged {
     Chained { over: bool },
     Unchained(u8),

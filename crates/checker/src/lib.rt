@@ -1,4 +1,6 @@
 // The checker: rules 1 to 14, 23 and 25 (docs/SHEET.md, sections 4, 12 and 14) over any bytes.
+#![tactic(auto)]
+
 mod early;
 mod fits;
 mod frame;
@@ -14,7 +16,7 @@ ghost use Rattle.checker.specs.Verdict.{verdict, outcome, outcome_of};
 use sheet::{Finding, Refusal};
 
 // The checker's answer: the sheet's counts, or a refusal's word and place.
-#[derive(Drop)]
+#[derive(Clone, Copy)]
 pub enum Verdict {
     Accepted { tasks: u8, cores: u8 },
     Refused { word: Refusal, place: u16 },

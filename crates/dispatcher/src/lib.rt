@@ -1,4 +1,6 @@
 // The two starts of a core, from a sheet and from a job list (docs/SHEET.md, sections 6, 7 and 14).
+#![tactic(auto)]
+
 ghost use Rattle.std.specs.Prelude.{◌≡◌, ◌+◌, ◌*◌, ◌≤◌, [], length, take};
 ghost use Rattle.sheet.specs.Numbers.{word};
 ghost use Rattle.sheet.specs.Records.{period_at, budget_at};

@@ -1,5 +1,7 @@
 // The figures of a core: Sr and DCT for a pivot, the load test, and the first construction that passes (docs/SHEET.md, section 5).
 // Periods and budgets are those of the core's tasks in priority order.
+#![tactic(auto)]
+
 ghost use Rattle.std.specs.Prelude.{◌≡◌, ℕ, ◌+◌, ◌*◌, ◌/◌, ◌<◌, ◌≤◌, true, map, length, take};
 ghost use Rattle.std.proofs.Math.Option.{none as noneOf};
 ghost use Rattle.fit.specs.Lists.{select, at, padded};
@@ -10,7 +12,7 @@ ghost use Rattle.figures.specs.Steps.{Ready, Usable, read_back, construction, fe
 ghost use Rattle.figures.specs.Answers.{written, outcome};
 
 // The pivot's period, the divisor, and the factors in priority order, then zeros.
-#[derive(Drop)]
+#[derive(Clone, Copy)]
 pub struct CoreFigures {
     pub pivot: u16,
     pub divisor: u32,
@@ -18,13 +20,13 @@ pub struct CoreFigures {
 }
 
 // Whether a construction passes, and the figures of the first that does; zeros where none does.
-#[derive(Drop)]
+#[derive(Clone, Copy)]
 pub struct Outcome {
     pub passes: bool,
     pub figures: CoreFigures,
 }
 
-#[derive(Drop)]
+#[derive(Clone, Copy)]
 enum Kind {
     Sr2,
     Sr3,

@@ -1,4 +1,6 @@
 // A job list as text on standard input, and what is said on standard error where it is wrong.
+#![tactic(auto)]
+
 ghost use Rattle.std.specs.Prelude.{◌≡◌, length};
 ghost use Rattle.sheet.specs.Refusals.{number_of};
 ghost use Rattle.jobinput.specs.Inputs.{Inside, Taken, of_job, line_named};
@@ -9,7 +11,7 @@ use libc::STDERR_FILENO;
 use sheet::Refusal;
 
 // The bytes of the text and of its jobs, each at the front of its buffer, or that there is no list, and why has been said.
-#[derive(Drop)]
+#[derive(Clone, Copy)]
 pub enum Given {
     Jobs { text: usize, jobs: usize },
     Nothing,

@@ -1,4 +1,6 @@
 // The job list: 4-byte entries with a period and a budget, and its refusals (docs/SHEET.md, section 5).
+#![tactic(auto)]
+
 ghost use Rattle.std.specs.Prelude.{◌≡◌, not, ◌||◌, ◌%◌, min, length, ltb, eqb};
 ghost use Rattle.sheet.specs.Table.{scan, found_of, finding_of};
 ghost use Rattle.fit.specs.Lists.{numbers, find};
@@ -19,7 +21,7 @@ pub fn in_order(by: By, jobs: &[u8], n: u8) -> Order
 }
 
 // The fields of an entry that are tested.
-#[derive(Drop)]
+#[derive(Clone, Copy)]
 enum Field {
     Period,
     Budget,

@@ -1,9 +1,11 @@
 // The text form of a job list: a period and a budget a line. specs/Text.antt says what is read and what is wrong.
+#![tactic(auto)]
+
 ghost use Rattle.std.specs.Prelude.{◌≡◌, ◌++◌, ◌+◌, ◌-◌, ◌*◌, ◌/◌, ◌≤◌, ◌<◌, min, length, take, drop};
 ghost use Rattle.jobtext.specs.Text.{empty_line, bad, longer, begun, digit, pause, is_digit, is_blank, in_line, start_state, fits, added, new_line, stopped_at, line_end, step, finish, room_in, fault_of, read_of, holding, line_of};
 
 // What is wrong with a line: it is not two numbers, one of the two is above 65,535, or there is no room for its job.
-#[derive(Drop)]
+#[derive(Clone, Copy)]
 pub enum Fault {
     NoJob,
     Large,
@@ -11,7 +13,7 @@ pub enum Fault {
 }
 
 // The bytes of the jobs that were written, or the first line that is wrong, counted from 1.
-#[derive(Drop)]
+#[derive(Clone, Copy)]
 pub enum Read {
     Jobs(u16),
     Wrong(u64, Fault),
@@ -19,7 +21,7 @@ pub enum Read {
 
 // The line being read: how many numbers it has, 3 if they cannot be a job; whether a number or a comment is being read, and whether a
 // number was above 65,535; its last two numbers, at most 65,535 each.
-#[derive(Drop)]
+#[derive(Clone, Copy)]
 struct Line {
     numbers: u8,
     inside: bool,
@@ -30,7 +32,7 @@ struct Line {
 }
 
 // The line's number, its contents so far, whether it stopped the reading, and the jobs of the lines before it.
-#[derive(Drop)]
+#[derive(Clone, Copy)]
 struct State {
     number: u64,
     line: Line,

@@ -1,4 +1,6 @@
 // Reads one sheet from standard input and prints its listing. What goes wrong is said in one line on standard error.
+#![tactic(auto)]
+
 use input::Input;
 use listing::Listed;
 

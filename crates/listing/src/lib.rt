@@ -1,5 +1,7 @@
 // The listing of a sheet: the text of any bytes, written into a lent buffer (docs/SHEET.md, section 8).
 // `tasks` is the sheet's part from byte 8, `cores` its part after the last task, `on` the core of each position.
+#![tactic(auto)]
+
 ghost use Rattle.std.specs.Prelude.{◌≡◌, ℕ, ◌+◌, ◌*◌, ◌%◌, ◌<◌, ◌≤◌, min, [], ◌∷◌, length};
 ghost use Rattle.sheet.specs.Numbers.{word};
 ghost use Rattle.sheet.specs.Records.{period_at, figures_with};
@@ -19,7 +21,7 @@ use checker::Verdict;
 use fit::Chain;
 
 // The length of the text; Tight where the output is under 8,192 bytes.
-#[derive(Drop)]
+#[derive(Clone, Copy)]
 pub enum Listed {
     Written(u16),
     Tight,

@@ -1,4 +1,6 @@
 // The margin of a task of a job list: how many ticks its jobs have to spare on the bench (docs/SHEET.md, section 11).
+#![tactic(auto)]
+
 ghost use Rattle.std.specs.Prelude.{◌≡◌, cond, ◌+◌, ◌*◌, ◌≤◌, ◌<◌, length, pos, ◌-ℤ◌, nat_abs};
 ghost use Rattle.fit.specs.Lists.{numbers};
 ghost use Rattle.fit.specs.Rounding.{ceiling};
@@ -11,14 +13,14 @@ ghost use Rattle.margin.specs.Steps.{demand_below, margin_below, Ranged, Gathere
 use sheet::{Finding, Refusal};
 
 // What `margin` answers: a number of ticks, below zero where no t up to the period meets the task's demand, or a refusal.
-#[derive(Drop)]
+#[derive(Clone, Copy)]
 pub enum Slack {
     Ticks(i32),
     Refused { word: Refusal, place: u16 },
 }
 
 // The periods and budgets of the tasks that have priority over one: the first `count` places.
-#[derive(Drop)]
+#[derive(Clone, Copy)]
 struct HigherTasks {
     count: usize,
     periods: [u16; 64],

@@ -1,5 +1,7 @@
 // Reads a job list as text from standard input and prints the margin of each of its jobs. What is wrong with the list is said in one line
 // on standard error, and then no margin is printed.
+#![tactic(auto)]
+
 use jobinput::Given;
 use libc::STDOUT_FILENO;
 use margin::Slack;

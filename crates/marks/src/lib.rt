@@ -1,4 +1,6 @@
 // Pending marks of a core's tasks, gathered eight to a word, and the search for the first that is set (docs/SHEET.md, section 6).
+#![tactic(auto)]
+
 ghost use Rattle.std.specs.Prelude.{◌≡◌, ◌+◌, ◌*◌, ◌<◌, min, take};
 ghost use Rattle.fit.specs.Lists.{place_of};
 ghost use Rattle.marks.specs.Words.{mark as mark_of, marked, Bytes, word_at};

@@ -1,5 +1,7 @@
 // Reads one sheet from standard input and writes the sheet of the other version to standard output. What is wrong is said in one line on
 // standard error, and then no sheet is written.
+#![tactic(auto)]
+
 use input::Input;
 use mover::Moved;
 use sheet::Refusal;

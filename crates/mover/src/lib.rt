@@ -1,5 +1,7 @@
 // The mover: the sheet of the other version, 1 or 2, written into a lent buffer (docs/SHEET.md, section 12).
 // `tasks` is the sheet's part from byte 8, `cores` its part after the last task.
+#![tactic(auto)]
+
 ghost use Rattle.std.specs.Prelude.{◌≡◌, true, false, ◌+◌, ◌*◌, ◌≤◌, min, length};
 ghost use Rattle.sheet.specs.Views.{is_grouped};
 ghost use Rattle.fit.specs.Lists.{numbers, joined, over, at};
@@ -13,14 +15,14 @@ use checker::Verdict;
 use sheet::Refusal;
 
 // The length of the sheet that is written, or a refusal's word and place.
-#[derive(Drop)]
+#[derive(Clone, Copy)]
 pub enum Moved {
     Written(u16),
     Refused { word: Refusal, place: u16 },
 }
 
 // How a sheet is laid out anew: for each new position the old one and byte 4, for each core byte 2.
-#[derive(Drop)]
+#[derive(Clone, Copy)]
 struct Arrangement {
     version: u8,
     from: [u8; 64],

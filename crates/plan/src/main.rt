@@ -1,5 +1,7 @@
 // Reads a job list as text from standard input and writes the sheet of its plan to standard output. The arguments are the core limit and
 // the start, 8 and 0 where they are absent. What is wrong is said in one line on standard error, and then no sheet is written.
+#![tactic(auto)]
+
 ghost use Rattle.std.specs.Prelude.{◌≡◌, ◌≤◌};
 ghost use Rattle.jobtext.specs.Text.{is_digit};
 ghost use Rattle.plan.specs.Number.{longer, number_in};
@@ -9,7 +11,7 @@ use libc::{STDERR_FILENO, STDOUT_FILENO};
 use planner::Planned;
 
 // What an argument is.
-#[derive(Drop)]
+#[derive(Clone, Copy)]
 enum Number {
     Value(u64),
     Wrong,

@@ -1,4 +1,6 @@
 // The planner: a job list, a core limit and a start become a sheet in a lent buffer (docs/SHEET.md, section 5).
+#![tactic(auto)]
+
 ghost use Rattle.std.specs.Prelude.{◌≡◌, length};
 ghost use Rattle.sheet.specs.Table.{scan, finding_of};
 ghost use Rattle.planner.specs.Plan.{bad_start, call_rows, plan_outcome, plan_output, outcome_of, Accepting};
@@ -11,35 +13,35 @@ use fit::By;
 use sheet::{Finding, Found, Refusal};
 
 // The planner's answer: the sheet's counts and length, or a refusal's word and place.
-#[derive(Drop)]
+#[derive(Clone, Copy)]
 pub enum Planned {
     Written { tasks: u8, cores: u8, length: u16 },
     Refused { word: Refusal, place: u16 },
 }
 
 // The core of each task by number, 255 for a task that has none yet, and how many cores are open.
-#[derive(Drop)]
+#[derive(Clone, Copy)]
 struct Assignment {
     core: [u8; 64],
     cores: u8,
 }
 
 // The task that finds no core, if any, and the assignment of those before it.
-#[derive(Drop)]
+#[derive(Clone, Copy)]
 struct Fitted {
     unplaced: Found,
     assignment: Assignment,
 }
 
 // The periods and budgets of a set of tasks in priority order.
-#[derive(Drop)]
+#[derive(Clone, Copy)]
 struct TaskSet {
     periods: [u16; 64],
     budgets: [u16; 64],
 }
 
 // Pivots and divisors by core number, factors by task number.
-#[derive(Drop)]
+#[derive(Clone, Copy)]
 struct Rates {
     pivots: [u16; 8],
     divisors: [u32; 8],

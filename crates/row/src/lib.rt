@@ -1,4 +1,6 @@
 // A row of core states on one beat: each is given its tick, and a lent row of bytes takes the answers (docs/SHEET.md, section 13).
+#![tactic(auto)]
+
 ghost use Rattle.std.specs.Prelude.{◌≡◌, map, ◌≤◌, ◌<◌, length, set};
 ghost use Rattle.fit.specs.Lists.{place_of};
 ghost use Rattle.timing.specs.Calls.{tick};
@@ -13,14 +15,14 @@ use sheet::Refusal;
 use state::{Answer, Core};
 
 // What a call on a row answers: every state was given its tick, or none was.
-#[derive(Drop)]
+#[derive(Clone, Copy)]
 pub enum RowAnswer {
     Ticked,
     Refused { word: Refusal, place: usize },
 }
 
 // The state that a tick hands back, and its answer as a byte.
-#[derive(Drop)]
+#[derive(Clone, Copy)]
 struct TickedCore {
     core: Core,
     byte: u8,

@@ -1,5 +1,7 @@
 // The refusals, little-endian numbers, and the fields of task and core records.
 // Every reader is total: what stands past the end reads as 0.
+#![tactic(auto)]
+
 ghost use Rattle.std.specs.Prelude.{◌≡◌, ◌+◌, ◌*◌, ◌≤◌, get_or};
 ghost use Rattle.sheet.specs.Refusals.{number_of};
 ghost use Rattle.sheet.specs.Ranges.{out_of};
@@ -8,7 +10,7 @@ ghost use Rattle.sheet.specs.Records.{period_at, budget_at, core_at, number_at, 
 ghost use Rattle.sheet.specs.Views.{is_grouped, is_stroked, stroke_of_position};
 
 // The refusals by their words, in the order of their numbers (docs/SHEET.md, section 9).
-#[derive(Drop)]
+#[derive(Clone, Copy)]
 pub enum Refusal {
     Stub,
     Mark,
@@ -38,14 +40,14 @@ pub enum Refusal {
 }
 
 // The first place at which something is found, if any.
-#[derive(Drop)]
+#[derive(Clone, Copy)]
 pub enum Found {
     At(u8),
     Nothing,
 }
 
 // What a group of rules finds: none is broken, or the first that is, and its place.
-#[derive(Drop)]
+#[derive(Clone, Copy)]
 pub enum Finding {
     Clear,
     Broken(Refusal, u16),

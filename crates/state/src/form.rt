@@ -8,7 +8,7 @@ use timing::Task;
 
 // What the pass keeps: the rank of the last task, the bitwise or of the numbers, and a bit for each number; the place of the task whose stroke
 // lasts, 64 before it is met, and the most ticks that its stroke may have left.
-#[derive(Drop)]
+#[derive(Clone, Copy)]
 pub(crate) struct Pass {
     pub last: u32,
     pub numbers: u8,

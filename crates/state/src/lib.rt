@@ -1,4 +1,6 @@
 // The state of a core, and release, finish and tick (docs/SHEET.md, sections 6 and 14).
+#![tactic(auto)]
+
 mod form;
 
 ghost use Rattle.std.specs.Prelude.{◌≡◌, cond, ◌-◌, ◌<◌, ◌≤◌, eqb};
@@ -15,7 +17,7 @@ use timing::Task;
 // The state of a core: its tasks are the first `count` places, in priority order; the number of the task whose stroke lasts and the ticks left
 // to it, both 0 for none.
 #[repr(C)]
-#[derive(Drop)]
+#[derive(Clone, Copy)]
 pub struct Core {
     pub count: usize,
     pub tasks: [Task; 64],
@@ -24,7 +26,7 @@ pub struct Core {
 }
 
 // What a call answers: a start, a release or a finish is accepted, a tick goes to the task with a number or is idle, a call is refused.
-#[derive(Drop)]
+#[derive(Clone, Copy)]
 pub enum Answer {
     Accepted,
     Served(u8),
@@ -33,14 +35,14 @@ pub enum Answer {
 }
 
 // The place of the task that a call names, or why it has none.
-#[derive(Drop)]
+#[derive(Clone, Copy)]
 enum Spot {
     At(usize),
     Refused(Refusal),
 }
 
 // The answer of a start or an operation, and the state that it hands back.
-#[derive(Drop)]
+#[derive(Clone, Copy)]
 pub struct Step {
     pub answer: Answer,
     pub core: Core,
