@@ -7,7 +7,7 @@ pub returns-then-s : goal.returns-then-s
 returns-then-s c = (search wrong_answer, search wrong_bytes)
 
 pub copy-requires : goal.copy-requires
-copy-requires c = (search rules, omega (arith, slice_aggregate_copy c))
+copy-requires c = (search rules, omega arith)
 
 pub returns : goal.returns
 returns c = (search jobs_answer, search jobs_bytes)
