@@ -8,12 +8,12 @@ passes-requires c = search (dct_usable, rules)
 
 pub returns-in-Sr2 : goal.returns-in-Sr2
 unfolding construction
-returns-in-Sr2 c = rw c.enum_told-1.is c.sr_feasible.ensures
+returns-in-Sr2 c = rw c.in-Sr2.is c.sr_feasible.ensures
 
 pub returns-in-Sr3 : goal.returns-in-Sr3
 unfolding construction
-returns-in-Sr3 c = rw c.enum_told-in-Sr3-1.is c.sr_feasible-in-Sr3.ensures
+returns-in-Sr3 c = rw c.in-Sr3.is c.sr_feasible-in-Sr3.ensures
 
 pub returns-in-Dct : goal.returns-in-Dct
 unfolding construction
-returns-in-Dct c = rw c.enum_told-in-Dct-1.is (search (dct_feasible, rules))
+returns-in-Dct c = rw c.in-Dct.is (search (dct_feasible, rules))
