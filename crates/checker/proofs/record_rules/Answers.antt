@@ -11,7 +11,7 @@ returns-in-Broken c = search (part_broken, part)
 pub fit_rules-requires : goal.fit_rules-requires
 fit_rules-requires c = 
     let a = c.args in
-    let ready = part_ready a.grouped a.stroked a.records.now _ _ a.n a.c (part a.records.now (10 * a.n)) c.requires.0 c.cores_of-on.ensures _ c.is_misordered-misordered.ensures _ c.early_rules-found.ensures c.enum_told-in_default-1.is in
+    let ready = part_ready a.grouped a.stroked a.records.now _ _ a.n a.c (part a.records.now (10 * a.n)) c.requires.0 c.cores_of-on.ensures _ c.is_misordered-misordered.ensures _ c.early_rules-found.ensures c.in_default.is in
     (omega (arith, c.requires.1), ready.0, ready.1)
 
 pub returns : goal.returns

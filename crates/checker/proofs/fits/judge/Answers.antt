@@ -19,7 +19,7 @@ pub nonzero_div-times : goal.nonzero_div-times
 nonzero_div-times c = c.loop-i.invariant.1.above
 
 pub overflow_mul-times : goal.overflow_mul-times
-overflow_mul-times c = omega (arith, times_within c.factor-m.result c.loop-i.last, c.factor-m.type-inv)
+overflow_mul-times c = omega (arith, times_within c.factor-m.result c.loop-i.last)
 
 pub returns-then-times-last : goal.returns-then-times-last
 returns-then-times-last c = pass_break _ _ _ _ _ _ _ _ _ _ c.loop-i-test.true (factors_above _ _ c.requires) c.loop-i.invariant.1 _ _ (c.factor-m.ensures ∙ factor_read _ _ _ c.offset-at.ensures.0) refl c.if-times-last.true

@@ -10,14 +10,23 @@ offset_bounds-self-at c = search (spot_fits, array_length, rules)
 pub bounds-self-at : goal.bounds-self-at
 bounds-self-at c = search (spot_room, array_length, rules)
 
-pub returns-then-t-eq0 : goal.returns-then-t-eq0
-returns-then-t-eq0 c = unaltered _ _ _ (search (finish_quiet, array_length, rules))
+pub returns-then-t-eq0-clause-operation : goal.returns-then-t-eq0-clause-operation
+returns-then-t-eq0-clause-operation c = search (finish_quiet, array_length, rules)
+
+pub returns-then-t-eq0-clause-refused_unaltered : goal.returns-then-t-eq0-clause-refused_unaltered
+returns-then-t-eq0-clause-refused_unaltered c = unaltered _ _ _ (returns-then-t-eq0-clause-operation c)
 
 pub accept-requires : goal.accept-requires
 accept-requires c = search (spot_room, array_length, rules)
 
-pub returns-in-Refused : goal.returns-in-Refused
-returns-in-Refused c = unaltered _ _ _ (search (finish_absent, array_length, rules))
+pub returns-in-Refused-clause-operation : goal.returns-in-Refused-clause-operation
+returns-in-Refused-clause-operation c = search (finish_absent, array_length, rules)
 
-pub returns-else-t-eq0 : goal.returns-else-t-eq0
-returns-else-t-eq0 c = unaltered _ _ _ (search (finish_ends, array_length, c.well_formed, rules))
+pub returns-in-Refused-clause-refused_unaltered : goal.returns-in-Refused-clause-refused_unaltered
+returns-in-Refused-clause-refused_unaltered c = unaltered _ _ _ (returns-in-Refused-clause-operation c)
+
+pub returns-else-t-eq0-clause-operation : goal.returns-else-t-eq0-clause-operation
+returns-else-t-eq0-clause-operation c = search (finish_ends, array_length, c.well_formed, rules)
+
+pub returns-else-t-eq0-clause-refused_unaltered : goal.returns-else-t-eq0-clause-refused_unaltered
+returns-else-t-eq0-clause-refused_unaltered c = unaltered _ _ _ (returns-else-t-eq0-clause-operation c)

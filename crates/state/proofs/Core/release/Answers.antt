@@ -10,17 +10,29 @@ offset_bounds-self-at c = search (spot_fits, array_length)
 pub bounds-self-at : goal.bounds-self-at
 bounds-self-at c = search (spot_room, array_length, rules)
 
-pub returns-then-t : goal.returns-then-t
-returns-then-t c = unaltered _ _ _ (search (release_early, array_length, rules))
+pub returns-then-t-clause-operation : goal.returns-then-t-clause-operation
+returns-then-t-clause-operation c = search (release_early, array_length, rules)
 
-pub returns-then-t-gt0 : goal.returns-then-t-gt0
-returns-then-t-gt0 c = unaltered _ _ _ (search (release_late, array_length, rules))
+pub returns-then-t-clause-refused_unaltered : goal.returns-then-t-clause-refused_unaltered
+returns-then-t-clause-refused_unaltered c = unaltered _ _ _ (returns-then-t-clause-operation c)
+
+pub returns-then-t-gt0-clause-operation : goal.returns-then-t-gt0-clause-operation
+returns-then-t-gt0-clause-operation c = search (release_late, array_length, rules)
+
+pub returns-then-t-gt0-clause-refused_unaltered : goal.returns-then-t-gt0-clause-refused_unaltered
+returns-then-t-gt0-clause-refused_unaltered c = unaltered _ _ _ (returns-then-t-gt0-clause-operation c)
 
 pub accept-requires : goal.accept-requires
 accept-requires c = search (spot_room, array_length, rules)
 
-pub returns-in-Refused : goal.returns-in-Refused
-returns-in-Refused c = unaltered _ _ _ (search (release_absent, release_starts, array_length, rules))
+pub returns-in-Refused-clause-operation : goal.returns-in-Refused-clause-operation
+returns-in-Refused-clause-operation c = search (release_absent, release_starts, array_length, rules)
 
-pub returns-else-t-gt0 : goal.returns-else-t-gt0
-returns-else-t-gt0 c = unaltered _ _ _ (search (release_starts, array_length, c.well_formed, rules))
+pub returns-in-Refused-clause-refused_unaltered : goal.returns-in-Refused-clause-refused_unaltered
+returns-in-Refused-clause-refused_unaltered c = unaltered _ _ _ (returns-in-Refused-clause-operation c)
+
+pub returns-else-t-gt0-clause-operation : goal.returns-else-t-gt0-clause-operation
+returns-else-t-gt0-clause-operation c = search (release_starts, array_length, c.well_formed, rules)
+
+pub returns-else-t-gt0-clause-refused_unaltered : goal.returns-else-t-gt0-clause-refused_unaltered
+returns-else-t-gt0-clause-refused_unaltered c = unaltered _ _ _ (returns-else-t-gt0-clause-operation c)
