@@ -5,7 +5,7 @@ use Rattle.margin.proofs.Exact.{exact}
 use Rattle.margin.proofs.margin.Goals as goal
 
 pub returns-then-n-number : goal.returns-then-n-number
-returns-then-n-number c = (search (margin_unlisted, rules), exact _)
+returns-then-n-number c = record { result_value = search (margin_unlisted, rules); exact = exact _ }
 
 pub overflow_cast-n : goal.overflow_cast-n
 overflow_cast-n c = search (list_fits, rules)
@@ -17,7 +17,7 @@ pub margin_of-requires : goal.margin_of-requires
 margin_of-requires c = (search (margin_listed, rules), search (all_listed, rules), search rules)
 
 pub returns-in-Broken : goal.returns-in-Broken
-returns-in-Broken c = (search (margin_refused, rules), exact _)
+returns-in-Broken c = record { result_value = search (margin_refused, rules); exact = exact _ }
 
 pub returns-else-n-number : goal.returns-else-n-number
-returns-else-n-number c = (search (margin_ticks, rules), exact _)
+returns-else-n-number c = record { result_value = search (margin_ticks, rules); exact = exact _ }

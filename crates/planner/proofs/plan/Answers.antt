@@ -4,7 +4,7 @@ use Rattle.planner.proofs.Planning.{refused_outcome, refused_output, count_is, c
 use Rattle.planner.proofs.plan.Goals as goal
 
 pub returns-in-Broken : goal.returns-in-Broken
-returns-in-Broken c = (search refused_outcome, (search refused_output, search rules))
+returns-in-Broken c = record { result_value = search refused_outcome; out_after = search refused_output; accepting = search rules }
 
 pub overflow_cast-n : goal.overflow_cast-n
 overflow_cast-n c = search (count_fits, rules)
@@ -22,7 +22,7 @@ pub fit_list-fit-requires : goal.fit_list-fit-requires
 fit_list-fit-requires c = (search count_is, search prioritized, search limit_few, search start_inside)
 
 pub returns-in-At : goal.returns-in-At
-returns-in-At c = (search unfit_outcome, (search unfit_output, search rules))
+returns-in-At c = record { result_value = search unfit_outcome; out_after = search unfit_output; accepting = search rules }
 
 pub slice_bounds-write_sheet-end : goal.slice_bounds-write_sheet-end
 slice_bounds-write_sheet-end c = search ordered_length
@@ -31,4 +31,4 @@ pub write_sheet-length-requires : goal.write_sheet-length-requires
 write_sheet-length-requires c = (search room_enough, search count_is, search prioritized, search assigned_all)
 
 pub returns : goal.returns
-returns c = (search fit_outcome, (search fit_output, search fit_accepted))
+returns c = record { result_value = search fit_outcome; out_after = search fit_output; accepting = search fit_accepted }
