@@ -8,7 +8,7 @@ use Rattle.margin.proofs.Gather.{gather_start, gather_turn, gather_end, count_wi
 use Rattle.margin.proofs.tasks_above.Given as goal
 
 abbrev pub invariant-loop-j : goal.invariant-loop-j
-invariant-loop-j l = (l.j ≤ l.n) × (l.count ≤ l.j) × Gathered (job_period l.list) (job_budget l.list) (tasks_above (job_period l.list) (numbers 0 l.j) l.i) (record { l.count = l.count; l.periods = l.periods; l.budgets = l.budgets })
+invariant-loop-j l = (l.j ≤ l.n) × (l.count ≤ l.j) × Gathered (job_period l.list) (job_budget l.list) (tasks_above (job_period l.list) (numbers 0 l.j) l.i) (record { count = l.count; periods = l.periods; budgets = l.budgets })
 
 abbrev pub decreases-loop-j : goal.decreases-loop-j
 decreases-loop-j l = l.n - l.j
