@@ -3,7 +3,7 @@ use Rattle.capi.proofs.Answers.{margined_ticks, margined_refused}
 use Rattle.capi.proofs.homvaits_margin.Goals as goal
 
 pub returns-in-Ticks : goal.returns-in-Ticks
-returns-in-Ticks c = (search margined_ticks, search rules)
+returns-in-Ticks c = record { value = search margined_ticks; exact = search rules }
 
 pub returns-in-Refused : goal.returns-in-Refused
-returns-in-Refused c = (search margined_refused, search rules)
+returns-in-Refused c = record { value = search margined_refused; exact = search rules }

@@ -4,7 +4,7 @@ use Rattle.capi.proofs.Moved.{moved_runs, refused_alike}
 use Rattle.capi.proofs.homvaits_move.Goals as goal
 
 pub returns-in-Written : goal.returns-in-Written
-returns-in-Written c = (search move_written, (search rules, λ z. search moved_runs))
+returns-in-Written c = record { value = search move_written; out_after = search rules; runs_alike = λ z. search moved_runs }
 
 pub returns-in-Refused : goal.returns-in-Refused
-returns-in-Refused c = (search move_refused, (search rules, λ z. search refused_alike))
+returns-in-Refused c = record { value = search move_refused; out_after = search rules; runs_alike = λ z. search refused_alike }
