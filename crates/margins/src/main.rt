@@ -33,12 +33,10 @@ fn print_margin(rt: &(impl Print + Eprint), text: &[u8], list: &[u8], task: u64)
 // Every call of `margin` looks at the whole list first, so a list that is refused is refused at its first task.
 fn print_margins(rt: &(impl Print + Eprint), text: &[u8], list: &[u8]) {
     let n = (list.len() / 4) as u64;
-    let mut task = 0;
-    while task < n {
+    for task in 0..n {
         if !print_margin(rt, text, list, task) {
             return;
         }
-        task += 1;
     }
 }
 

@@ -25,6 +25,7 @@ fn is_digit(b: u8) -> bool
 }
 
 // A number with one digit more.
+#[tactic(auto, unfolding(crate::specs::Number::longer))]
 fn extend(x: u64, b: u8) -> u64
     requires { (x ≤ 1000000) × (48 ≤ b) }
     ensures { (result ≡ longer x b) × (result ≤ 1000000) }
