@@ -1,6 +1,6 @@
 /* Homvaits: checks, plans and runs timing sheets. What a sheet is and when a core fits is told in docs/SHEET.md.
  *
- * Link libcapi.a (`rt staticlib capi`; x86-64 Linux). It has no heap and no globals, so every call is reentrant and may be made from any
+ * Link libcapi.a (`./build capi`; x86-64 Linux). It has no heap and no globals, so every call is reentrant and may be made from any
  * thread, and it needs nothing but memcpy and memset.
  *
  * Every call takes any bytes and any numbers, and always returns. What the caller must see to:

@@ -1,5 +1,5 @@
 #!/usr/bin/env bash
-# What the programs list, plan, margins and move_sheet, and run-example, print on standard output and standard error; their exit status.
+# What list, plan, margins and move_sheet, run-example and build print on standard output and standard error; their exit status.
 # Stored and written here is what the rules of sheets and plans give, and for the programs' own messages what docs/DECISIONS.md says.
 set -euo pipefail
 cd "$(dirname "$0")/.."
@@ -83,8 +83,18 @@ try 'run-example of no file' 1 '' "run-example: there is no job list $room/none\
 try 'run-example of a directory' 1 '' 'run-example: examples is a directory, not a job list\n' ./run-example examples
 try 'run-example of an unreadable file' 1 '' 'run-example: the job list /dev/tty cannot be read\n' setsid -w ./run-example /dev/tty
 try 'run-example without rt' 1 '' 'run-example: the Rattle toolchain, rt, is not on the PATH\n' env PATH="$room/bin" ./run-example
-try 'run.sh without the library' 1 '' "run.sh: there is no library $room/none; rt staticlib capi makes target/staticlib/libcapi.a\n" \
+try 'run.sh without the library' 1 '' "run.sh: there is no library $room/none; ./build capi makes target/staticlib/libcapi.a\n" \
     env HOMVAITS_LIB="$room/none" tests/run.sh
+
+# build: what it does not take, at which nothing is built, and a toolchain that ends well without a program.
+mkdir "$room/toolchain"
+printf '#!/bin/sh\necho "rt: no more" >&2\n' > "$room/toolchain/rt"
+chmod +x "$room/toolchain/rt"
+try 'build of nothing' 2 '' 'usage: build NAME..\n' ./build
+try 'build without rt' 1 '' 'build: the Rattle toolchain, rt, is not on the PATH\n' env PATH="$room/bin" ./build list
+try 'build of no crate' 1 '' "build: crates.txt has no crate 'none'\n" ./build list none
+try 'build of a library' 1 '' 'build: sheet is neither a program nor a static library\n' ./build list sheet
+try 'build without a program' 1 '' 'rt: no more\nbuild: list is not built\n' env PATH="$room/toolchain:$PATH" ./build list
 
 # The examples; the first builds list and plan.
 for jobs in examples/*.jobs; do
@@ -222,7 +232,7 @@ try 'plan to a full device' 0 '' 'standard output: No space left on device\n' sh
 
 # margins: a period minus the smallest t from 1 on, up to the period, at which the demand is at most t, or else minus the demand at the
 # period. Each task's demand at t is its own budget and, of each task above it, the budget times (t / period rounded up).
-rt check margins > "$room/log" 2>&1 || { cat "$room/log"; exit 1; }
+./build margins
 margins=target/bin/margins
 # Task 1: 4 + 2 * 2 at 7. Task 2: 1 + 7 * 2 + 5 * 4 at 35.
 example='task 0 margin 3\ntask 1 margin -1\ntask 2 margin 0\n'
@@ -263,7 +273,7 @@ try 'margins of an input that breaks off' 0 '' 'standard input: Input/output err
 try 'margins to a full device' 0 '' 'standard output: No space left on device\n' sh -c "$margins > /dev/full" < examples/full-core.jobs
 
 # move_sheet: to version 2 and back.
-rt check move_sheet > "$room/log" 2>&1 || { cat "$room/log"; exit 1; }
+./build move_sheet
 move=target/bin/move_sheet
 try 'move_sheet of version 1' 0 "$(by_core 1 4 0 2)" '' $move < <(printf "$by_number")
 try 'move_sheet of version 2' 0 "$by_number" '' $move < <(printf "$(by_core 1 4 0 2)")

@@ -1,10 +1,10 @@
 #!/usr/bin/env bash
-# The outside tests against the proved library (`rt staticlib capi` makes it) and the programs. Arguments: a seed and a number of rounds.
+# The outside tests against the proved library (`./build capi` makes it) and the programs. Arguments: a seed and a number of rounds.
 set -euo pipefail
 cd "$(dirname "$0")"
 export HOMVAITS_LIB="${HOMVAITS_LIB:-$(realpath -m ../target/staticlib/libcapi.a)}"
 if [ ! -f "$HOMVAITS_LIB" ]; then
-    echo "run.sh: there is no library $HOMVAITS_LIB; rt staticlib capi makes target/staticlib/libcapi.a" >&2
+    echo "run.sh: there is no library $HOMVAITS_LIB; ./build capi makes target/staticlib/libcapi.a" >&2
     exit 1
 fi
 export CARGO_TARGET_DIR="${CARGO_TARGET_DIR:-$(realpath ..)/target/cargo}"

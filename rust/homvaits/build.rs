@@ -1,4 +1,4 @@
-//! Links the library that HOMVAITS_LIB names, or else the one that `rt staticlib capi` writes in this repository, if it has the layout
+//! Links the library that HOMVAITS_LIB names, or else the one that `./build capi` writes in this repository, if it has the layout
 //! that the crate is written for.
 
 use std::env;
@@ -31,7 +31,7 @@ fn link() -> Result<(), String> {
     }
     if !lib.is_file() {
         return Err(format!(
-            "there is no library {shown}: run `rt staticlib capi` in the repository, or set HOMVAITS_LIB to the whole path of libcapi.a"
+            "there is no library {shown}: run `./build capi` in the repository, or set HOMVAITS_LIB to the whole path of libcapi.a"
         ));
     }
     let name = lib
@@ -48,7 +48,7 @@ fn link() -> Result<(), String> {
     };
     if let Some(has) = has {
         return Err(format!(
-            "the library {shown} has {has}, and this crate needs layout {LAYOUT} (the symbol homvaits_layout_{LAYOUT}): take crate and library from one revision of the repository, where `rt staticlib capi` makes libcapi.a"
+            "the library {shown} has {has}, and this crate needs layout {LAYOUT} (the symbol homvaits_layout_{LAYOUT}): take crate and library from one revision of the repository, where `./build capi` makes libcapi.a"
         ));
     }
     println!("cargo::rustc-link-search=native={}", folder.display());

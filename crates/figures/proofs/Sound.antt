@@ -44,12 +44,16 @@ pub factors_length : (Q D d : ℕ) (ps ms : List ℕ) → Factors Q D d ps ms �
 unfolding Factors
 factors_length Q D d [] [] h = refl
 factors_length Q D d (p ∷ ps) (m ∷ ms) h = ap suc (factors_length Q D m ps ms h.1)
+factors_length Q D d [] (m ∷ ms) h = elim h [ ]
+factors_length Q D d (p ∷ ps) [] h = elim h [ ]
 
 pub factors_at : (Q D d : ℕ) (ps ms : List ℕ) → Factors Q D d ps ms → (i : ℕ) → i < length ps → (Q * at ms i ≤ at ps i * D) × (0 < at ms i)
 unfolding Factors
 factors_at Q D d [] [] h i q = absurd (omega arith)
 factors_at Q D d (p ∷ ps) (m ∷ ms) h zero q = (h.0.accelerated, h.0.positive)
 factors_at Q D d (p ∷ ps) (m ∷ ms) h (suc i) q = factors_at Q D m ps ms h.1 i (omega arith)
+factors_at Q D d [] (m ∷ ms) h i q = elim h [ ]
+factors_at Q D d (p ∷ ps) [] h i q = elim h [ ]
 
 -- no factor is below one before it
 multiple_low : (d m : ℕ) → Multiple d m → 0 < m → d ≤ m
@@ -63,6 +67,8 @@ module _ (Q D : ℕ) where
   factors_low d [] [] h i q = absurd (omega arith)
   factors_low d (p ∷ ps) (m ∷ ms) h zero q = multiple_low d m h.0.multiple h.0.positive
   factors_low d (p ∷ ps) (m ∷ ms) h (suc i) q = le_trans (multiple_low d m h.0.multiple h.0.positive) (factors_low m ps ms h.1 i (omega arith))
+  factors_low d [] (m ∷ ms) h i q = elim h [ ]
+  factors_low d (p ∷ ps) [] h i q = elim h [ ]
 
   pub factors_rise : (d : ℕ) (ps ms : List ℕ) → Factors Q D d ps ms → (i j : ℕ) → i ≤ j → j < length ps → at ms i ≤ at ms j
   unfolding Factors
@@ -71,6 +77,8 @@ module _ (Q D : ℕ) where
   factors_rise d (p ∷ ps) (m ∷ ms) h zero (suc j) q r = factors_low m ps ms h.1 j (omega arith)
   factors_rise d (p ∷ ps) (m ∷ ms) h (suc i) zero q r = absurd (omega arith)
   factors_rise d (p ∷ ps) (m ∷ ms) h (suc i) (suc j) q r = factors_rise m ps ms h.1 i j (omega arith) (omega arith)
+  factors_rise d [] (m ∷ ms) h i j q r = elim h [ ]
+  factors_rise d (p ∷ ps) [] h i j q r = elim h [ ]
 
 -- an accelerated factor is below b times its period
 factor_bound : (b Q D p m : ℕ) → 0 < p → D < b * Q → Q * m ≤ p * D → m < b * p

@@ -1,10 +1,11 @@
 -- Each way out of `tick_row`, as the code returns it.
 -- Assumes nothing.
-use Prim.Native.Nat.{ℕ}
+use Prim.Native.Nat.{ℕ, ◌<◌, ◌≤◌}
 use mathlib.Core.Path.{◌≡◌, refl, sym, ap, ◌∙◌}
-use mathlib.Core.Bool.{not}
+use mathlib.Core.Bool.{Bool, true, false}
 use mathlib.Core.List.{List, map}
-use lib.Dec.{T, ltb}
+use lib.Dec.{ltb}
+use borrow.Author.Tests.{lt-ltb, le-ltb}
 use lib.ListN.{length}
 use Rattle.sheet.specs.declared.Refusal.TheVariants.{Foreign, Row as RowWord}
 use Rattle.fit.specs.Lists.{place_of}
@@ -15,7 +16,6 @@ use Rattle.state.specs.State.{foreign}
 use Rattle.row.specs.declared.RowAnswer.{RowAnswer}
 use Rattle.row.specs.declared.RowAnswer.TheVariants.{Ticked, Refused}
 use Rattle.row.specs.Row.{Outcome, ticked, refused, outcome_of, row_outcome, row_states, written, row_bytes}
-use Rattle.row.proofs.Places.{is_true, is_false}
 
 -- what the call promises of an answer r, the states zs and the bytes ws
 pub record Gives (ys : List Core) (bs : List ℕ) (r : RowAnswer) (zs : List Core) (ws : List ℕ) : Type 0 where
@@ -31,15 +31,15 @@ module _ (ys : List Core) (bs : List ℕ) where
   abbrev at : ℕ
   at = place_of foreign ys
 
-  pub too_short : T (ltb (length bs) (length ys)) → Gives ys bs (Refused RowWord 0) ys bs
+  pub too_short : length bs < length ys → Gives ys bs (Refused RowWord 0) ys bs
   unfolding row_outcome row_states row_bytes
-  too_short h = gives (refused 24 0) _ ys bs (rw (is_true (ltb (length bs) (length ys)) h)) refl refl refl
+  too_short h = gives (refused 24 0) _ ys bs (rw (lt-ltb (length bs) (length ys) h)) refl refl refl
 
-  module _ (h : T (not (ltb (length bs) (length ys)))) where
-    pub found_foreign : T (ltb at (length ys)) → Gives ys bs (Refused Foreign at) ys bs
+  module _ (h : length ys ≤ length bs) where
+    pub found_foreign : (n : ℕ) → n ≡ at → n < length ys → Gives ys bs (Refused Foreign n) ys bs
     unfolding row_outcome row_states row_bytes
-    found_foreign k = gives (refused 21 at) _ ys bs (rw (is_false (ltb (length bs) (length ys)) h, is_true (ltb at (length ys)) k)) refl refl refl
+    found_foreign n e k = let l : at < length ys = rw (sym e) k in gives (refused 21 n) _ ys bs (rw (le-ltb (length bs) (length ys) h, lt-ltb at (length ys) l, e)) refl refl refl
 
-    pub all_ticked : T (not (ltb at (length ys))) → (zs : List Core) (ws : List ℕ) → zs ≡ map (step tick) ys → ws ≡ written ys bs → Gives ys bs Ticked zs ws
+    pub all_ticked : (n : ℕ) → n ≡ at → length ys ≤ n → (zs : List Core) (ws : List ℕ) → zs ≡ map (step tick) ys → ws ≡ written ys bs → Gives ys bs Ticked zs ws
     unfolding row_outcome row_states row_bytes
-    all_ticked k zs ws a b = gives ticked _ zs ws (rw (is_false (ltb (length bs) (length ys)) h, is_false (ltb at (length ys)) k)) refl a b
+    all_ticked n e k zs ws a b = let l : length ys ≤ at = rw (sym e) k in gives ticked _ zs ws (rw (le-ltb (length bs) (length ys) h, le-ltb at (length ys) l)) refl a b

@@ -113,11 +113,11 @@ pub never_foreign : (cs : List Call) (s : Core) → length s.tasks ≡ 64 → In
 never_foreign cs s places f = ap (count (is_refused 21)) (log_form cs s places f) ∙ none_foreign cs (state_in s)
 
 -- what every operation promises beside its outcome, and what a tick promises
-pub unaltered : (c : Call) (s : Core) (r : Step) → Operation c s r → Operation c s r × Unaltered s r
-unaltered c s r o = (o, record { kept = λ n p e. o.core ∙ refused_unaltered c s n p (sym o.answer ∙ e) })
+pub unaltered : (c : Call) (s : Core) (r : Step) → Operation c s r → Unaltered s r
+unaltered c s r o = record { kept = λ n p e. o.core ∙ refused_unaltered c s n p (sym o.answer ∙ e) }
 
-pub serves : (s : Core) (r : Step) → Operation tick s r → Operation tick s r × (Unaltered s r × Serves s r)
-serves s r o = (o, ((unaltered tick s r o).1, record { goes = λ e. let f = foreign_form s e in subst (TickGoes (state_in s)) (sym (o.answer ∙ ask_form tick s f)) (tick_goes_to (state_in s) f.form) }))
+pub serves : (s : Core) (r : Step) → Operation tick s r → Serves s r
+serves s r o = record { goes = λ e. let f = foreign_form s e in subst (TickGoes (state_in s)) (sym (o.answer ∙ ask_form tick s f)) (tick_goes_to (state_in s) f.form) }
 
 -- the ages after every list of calls from a fresh state in form count the ticks since the last accepted release
 pub age_counts : (s : Core) → length s.tasks ≡ 64 → InForm s → Each Fresh (tasks_of s) → (cs : List Call) → AgeCounts (log ask step s cs) (tasks_of (run step s cs))

@@ -41,7 +41,7 @@
 //!
 //! # The library
 //!
-//! The crate links `target/staticlib/libcapi.a` of the repository, which `rt staticlib capi` writes for x86-64 Linux, or the file whose
+//! The crate links `target/staticlib/libcapi.a` of the repository, which `./build capi` writes for x86-64 Linux, or the file whose
 //! whole path is in the environment variable `HOMVAITS_LIB` at build time. Crate and library belong together. Both know the number of the
 //! layout of structs and signatures, [`LAYOUT`]: the library has a symbol whose name ends with it, and the build script stops with an error
 //! that says which the library has, if any, and which the crate needs. A refusal or place that only another library of the same layout can give

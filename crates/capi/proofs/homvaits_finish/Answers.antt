@@ -1,0 +1,6 @@
+use Rattle.std.proofs.Common.{rules}
+use Rattle.capi.proofs.Answers.{stepped_on}
+use Rattle.capi.proofs.homvaits_finish.Goals as goal
+
+pub returns : goal.returns
+returns c = search stepped_on

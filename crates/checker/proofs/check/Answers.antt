@@ -1,0 +1,6 @@
+use Rattle.std.proofs.Common.{rules}
+use Rattle.checker.proofs.Clear.{answered}
+use Rattle.checker.proofs.check.Goals as goal
+
+pub returns : goal.returns
+returns c = search answered

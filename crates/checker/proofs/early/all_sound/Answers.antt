@@ -1,0 +1,20 @@
+use Rattle.std.proofs.Common.{rules}
+use Prim.Native.Nat.{◌≤◌, ◌-◌}
+use mathlib.Core.Bool.{false≢true}
+use Rattle.sheet.specs.Records.{figures_with}
+use Rattle.sheet.specs.Views.{stroke_of_position}
+use Rattle.fit.specs.Lists.{at}
+use Rattle.checker.proofs.Sound.{Below, below_start, below_turn, below_end}
+use Rattle.checker.proofs.early.all_sound.Goals as goal
+
+pub loop-i-init : goal.loop-i-init
+loop-i-init c = search (below_start, rules)
+
+pub returns-then-not-is_sound : goal.returns-then-not-is_sound
+returns-then-not-is_sound c = λ e. absurd (false≢true e)
+
+pub loop-i-preserved : goal.loop-i-preserved
+loop-i-preserved c = (search rules, search (below_turn, rules))
+
+pub returns : goal.returns
+returns c = λ e. below_end _ _ _ c.loop-i-test.false c.loop-i.invariant.1

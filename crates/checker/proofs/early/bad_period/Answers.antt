@@ -1,0 +1,7 @@
+use Rattle.std.proofs.Common.{rules}
+use Rattle.sheet.specs.Ranges.{bad_period}
+use Rattle.checker.proofs.early.bad_period.Goals as goal
+
+pub returns : goal.returns
+unfolding bad_period
+returns c = cc

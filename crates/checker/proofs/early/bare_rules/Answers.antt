@@ -1,0 +1,17 @@
+use Rattle.checker.specs.Rules.{core_rows}
+use Rattle.sheet.proofs.Scans.{scan_skip, scan_hit, scan_none, found_at, found_none, core_at, core_none}
+use Rattle.checker.proofs.Sound.{factors_clear, stretch_clear}
+use Rattle.std.proofs.Common.{rules}
+use Rattle.checker.proofs.early.bare_rules.Goals as goal
+
+pub returns-in-At : goal.returns-in-At
+unfolding core_rows
+returns-in-At c = search (scan_hit, found_at, core_at)
+
+pub returns-in-At-pivot : goal.returns-in-At-pivot
+unfolding core_rows
+returns-in-At-pivot c = search (scan_skip, scan_hit, scan_none, found_at, found_none, core_at, core_none, factors_clear _ c.requires, stretch_clear _ c.requires) depth 9
+
+pub returns : goal.returns
+unfolding core_rows
+returns c = search (scan_skip, scan_hit, scan_none, found_at, found_none, core_at, core_none, factors_clear _ c.requires, stretch_clear _ c.requires) depth 9

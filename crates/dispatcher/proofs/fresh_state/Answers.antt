@@ -1,0 +1,16 @@
+use Rattle.std.proofs.Common.{rules}
+use Prim.Native.Nat.{◌+◌, ◌*◌, ◌≤◌, ◌-◌}
+use lib.ListN.{take}
+use Rattle.sheet.specs.Numbers.{word}
+use Rattle.sheet.specs.Views.{number_of_position, stroke_of_position}
+use Rattle.dispatcher.proofs.Starting.{Filled, fill_start, fill_turn, fill_end}
+use Rattle.dispatcher.proofs.fresh_state.Goals as goal
+
+pub loop-i-init : goal.loop-i-init
+loop-i-init c = (search rules, search (fill_start, rules))
+
+pub loop-i-preserved : goal.loop-i-preserved
+loop-i-preserved c = (search rules, search (fill_turn, rules))
+
+pub returns : goal.returns
+returns c = search (fill_end, rules)

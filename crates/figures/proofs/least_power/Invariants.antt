@@ -1,0 +1,10 @@
+use Rattle.std.proofs.Common.{rules}
+use Prim.Native.Nat.{◌-◌}
+use Rattle.figures.proofs.Climbs.{Reach, reach_start, reach_power_fits, reach_fits, reach_less, reach_turn, reach_end}
+use Rattle.figures.proofs.least_power.Given as goal
+
+abbrev pub invariant-loop-reach : goal.invariant-loop-reach
+invariant-loop-reach l = Reach l.base l.q l.p l.power l.reach
+
+abbrev pub decreases-loop-reach : goal.decreases-loop-reach
+decreases-loop-reach l = l.q - l.reach

@@ -1,0 +1,39 @@
+use Rattle.std.proofs.Common.{rules}
+use Prim.Native.Nat.{◌-◌, ◌≤◌}
+use lib.ListN.{length}
+use Rattle.figures.proofs.Ranges.{ranges}
+use Rattle.figures.specs.Constructions.{sr}
+use Rattle.fit.proofs.Filling.{Filled, filled_start}
+use Rattle.figures.proofs.SrLoop.{SrLoop, sr_start, divisor_fits, pivot_positive, limit_small, limit_fits, power_fits, factor_fits, sr_turn, store_turn, store_end}
+use Rattle.figures.proofs.sr.Goals as goal
+
+pub least_power-d-requires : goal.least_power-d-requires
+least_power-d-requires c = search (ranges, rules)
+
+pub loop-i-init : goal.loop-i-init
+loop-i-init c = (search rules, search (sr_start, rules), filled_start _)
+
+pub overflow_mul-wide : goal.overflow_mul-wide
+overflow_mul-wide c = search (limit_fits, rules)
+
+pub largest_power-power-requires : goal.largest_power-power-requires
+largest_power-power-requires c = 
+    (search rules, search rules, search (pivot_positive, rules), search (limit_small, rules), search (power_fits, rules), search rules)
+
+pub overflow_cast-factors : goal.overflow_cast-factors
+overflow_cast-factors c = search (factor_fits, rules)
+
+pub loop-i-preserved : goal.loop-i-preserved
+loop-i-preserved c = 
+    let s = c.loop-i.invariant.1 in
+    let h = c.loop-i-test.true in (
+      search rules,
+      sr_turn _ _ _ _ _ _ _ s _ h c.wide-in-loop-i.ensures.0 _ c.largest_power-power.ensures,
+      store_turn _ _ _ _ _ _ _ s _ h c.wide-in-loop-i.ensures.0 _ c.largest_power-power.ensures _ c.loop-i.invariant.2,
+    )
+
+pub overflow_cast-result : goal.overflow_cast-result
+overflow_cast-result c = search (divisor_fits, rules)
+
+pub returns : goal.returns
+returns c = search (store_end, rules)

@@ -1,0 +1,17 @@
+use Rattle.std.proofs.Common.{rules}
+use Prim.Native.Nat.{◌≤◌, ◌-◌}
+use Rattle.jobs.specs.Steps.{broken}
+use Rattle.fit.proofs.Finds.{Left, find_start, find_hit, find_turn, find_end}
+use Rattle.jobs.proofs.first.Goals as goal
+
+pub loop-i-init : goal.loop-i-init
+loop-i-init c = search (find_start, rules)
+
+pub returns-then-is_broken : goal.returns-then-is_broken
+returns-then-is_broken c = search (find_hit, rules)
+
+pub loop-i-preserved : goal.loop-i-preserved
+loop-i-preserved c = (search rules, search (find_turn, rules))
+
+pub returns : goal.returns
+returns c = search (find_end, rules)

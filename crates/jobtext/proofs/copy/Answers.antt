@@ -1,0 +1,13 @@
+use Rattle.std.proofs.Common.{rules}
+use Prim.Native.Nat.{◌≤◌, ◌-◌}
+use mathlib.Core.Path.{◌≡◌}
+use mathlib.Core.List.{◌++◌}
+use lib.ListN.{length, take, drop}
+use Rattle.jobtext.proofs.Texts.{copy_next, copy_end}
+use Rattle.jobtext.proofs.copy.Goals as goal
+
+pub loop-i-preserved : goal.loop-i-preserved
+loop-i-preserved c = search (copy_next, rules)
+
+pub returns : goal.returns
+returns c = search (copy_end, rules)

@@ -1,0 +1,6 @@
+use Rattle.std.proofs.Common.{rules}
+use Rattle.jobtext.proofs.Lines.{longer_kept}
+use Rattle.jobtext.proofs.extend.Goals as goal
+
+pub returns : goal.returns
+returns c = search longer_kept

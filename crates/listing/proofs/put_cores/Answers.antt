@@ -1,0 +1,32 @@
+use Rattle.std.proofs.Common.{rules}
+use Prim.Native.Nat.{◌≤◌, ◌-◌, ◌*◌}
+use mathlib.Core.Path.{◌≡◌}
+use lib.ListN.{length}
+use Rattle.sheet.specs.Records.{figures_with}
+use Rattle.fit.specs.Lists.{numbers, at as column, joined}
+use Rattle.listing.specs.Listing.{core_line}
+use Rattle.listing.specs.Steps.{Capped, one_tick}
+use Rattle.listing.proofs.Figures.{Begins, begins_first, begins_next, part_rises, part_inside, part_order}
+use Rattle.listing.proofs.Lines.{lines_start, lines_turn, lines_end}
+use Rattle.listing.proofs.put_cores.Goals as goal
+
+pub loop-k-init : goal.loop-k-init
+loop-k-init c = search (lines_start, begins_first, rules)
+
+pub slice_bounds-put_core-count : goal.slice_bounds-put_core-count
+slice_bounds-put_core-count c = search (part_rises, rules)
+
+pub slice_bounds-put_core-start : goal.slice_bounds-put_core-start
+slice_bounds-put_core-start c = search (part_rises, rules)
+
+pub slice_bounds-put_core-end : goal.slice_bounds-put_core-end
+slice_bounds-put_core-end c = search (part_inside, rules)
+
+pub put_core-after-requires : goal.put_core-after-requires
+put_core-after-requires c = (search rules, part_order _ _ _ _ _ _ c.loop-k.invariant.3 c.end_on-end.ensures (search rules) (search rules) (search rules) (search rules), search rules, search rules, search rules)
+
+pub loop-k-preserved : goal.loop-k-preserved
+loop-k-preserved c = (search rules, search rules, search lines_turn, search (begins_next, rules))
+
+pub returns : goal.returns
+returns c = search (lines_end, rules)

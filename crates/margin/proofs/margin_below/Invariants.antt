@@ -1,0 +1,10 @@
+use Prim.Native.Nat.{◌+◌, ◌-◌}
+use Rattle.std.proofs.Common.{rules}
+use Rattle.margin.proofs.Search.{Unmet, search_start, search_turn, search_hit, search_end}
+use Rattle.margin.proofs.margin_below.Given as goal
+
+abbrev pub invariant-loop-t : goal.invariant-loop-t
+invariant-loop-t l = Unmet l.periods l.budgets l.budget l.t
+
+abbrev pub decreases-loop-t : goal.decreases-loop-t
+decreases-loop-t l = l.p + 1 - l.t

@@ -1,0 +1,13 @@
+use Rattle.std.proofs.Common.{rules}
+use Prim.Native.Nat.{◌≤◌, ◌-◌}
+use Rattle.mover.proofs.Records.{Copied, copy_start, copy_turn, copy_end}
+use Rattle.mover.proofs.copy_inside.Goals as goal
+
+pub loop-i-init : goal.loop-i-init
+loop-i-init c = search (copy_start, rules)
+
+pub loop-i-preserved : goal.loop-i-preserved
+loop-i-preserved c = (search rules, search (copy_turn, rules))
+
+pub returns : goal.returns
+returns c = search copy_end

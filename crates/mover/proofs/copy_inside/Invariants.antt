@@ -1,0 +1,10 @@
+use Rattle.std.proofs.Common.{rules}
+use Prim.Native.Nat.{◌≤◌, ◌-◌}
+use Rattle.mover.proofs.Records.{Copied, copy_start, copy_turn, copy_end}
+use Rattle.mover.proofs.copy_inside.Given as goal
+
+abbrev pub invariant-loop-i : goal.invariant-loop-i
+invariant-loop-i l = (l.i ≤ l.n) × Copied l.from l.a l.initial.part l.i l.part
+
+abbrev pub decreases-loop-i : goal.decreases-loop-i
+decreases-loop-i l = l.n - l.i

@@ -1,0 +1,11 @@
+use Rattle.std.proofs.Common.{rules}
+use Prim.Native.Nat.{◌≤◌, ◌-◌, min}
+use Rattle.fit.specs.Lists.{at}
+use Rattle.mover.proofs.Gathering.{Gathered, gather_start, gather_rises, gather_fits, gather_turn, gather_end}
+use Rattle.mover.proofs.core_by_core.Given as goal
+
+abbrev pub invariant-loop-k : goal.invariant-loop-k
+invariant-loop-k l = (l.k ≤ l.c) × Gathered (at l.periods) (at l.on) (min l.n 64) l.list l.k l.at l.counts
+
+abbrev pub decreases-loop-k : goal.decreases-loop-k
+decreases-loop-k l = l.c - l.k

@@ -1,0 +1,12 @@
+use Rattle.std.proofs.Common.{rules}
+use Prim.Native.Nat.{◌≤◌, ◌-◌}
+use Rattle.fit.proofs.Laying.{Laid, lay_start, lay_end}
+use Rattle.mover.specs.Steps.{core_bytes}
+use Rattle.mover.proofs.Records.{core_turn}
+use Rattle.mover.proofs.put_cores.Given as goal
+
+abbrev pub invariant-loop-k : goal.invariant-loop-k
+invariant-loop-k l = (l.k ≤ l.c) × Laid (core_bytes l.cores l.counts) 8 l.initial.part l.k l.at l.part
+
+abbrev pub decreases-loop-k : goal.decreases-loop-k
+decreases-loop-k l = l.c - l.k

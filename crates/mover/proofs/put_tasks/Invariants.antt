@@ -1,0 +1,12 @@
+use Rattle.std.proofs.Common.{rules}
+use Prim.Native.Nat.{◌≤◌, ◌-◌}
+use Rattle.fit.proofs.Laying.{Laid, lay_start, lay_end}
+use Rattle.mover.specs.Steps.{task_bytes}
+use Rattle.mover.proofs.Records.{task_turn}
+use Rattle.mover.proofs.put_tasks.Given as goal
+
+abbrev pub invariant-loop-i : goal.invariant-loop-i
+invariant-loop-i l = (l.i ≤ l.n) × Laid (task_bytes l.tasks l.from l.byte4) 10 l.initial.part l.i l.at l.part
+
+abbrev pub decreases-loop-i : goal.decreases-loop-i
+decreases-loop-i l = l.n - l.i

@@ -1,0 +1,12 @@
+use Rattle.std.proofs.Common.{rules}
+use Prim.Native.Nat.{◌≤◌, ◌-◌}
+use Rattle.fit.proofs.Sorting.{ordered_length}
+use Rattle.planner.proofs.Fitting.{prioritized_few, ordered_few, ordered_room}
+use Rattle.planner.proofs.Rating.{Rating, rate_start, rate_turn, rate_end}
+use Rattle.planner.proofs.sets.rates_of.Given as goal
+
+abbrev pub invariant-loop-k : goal.invariant-loop-k
+invariant-loop-k l = (l.k ≤ l.opened) × Rating l.jobs l.cores l.k l.pivots l.divisors l.factors
+
+abbrev pub decreases-loop-k : goal.decreases-loop-k
+decreases-loop-k l = l.opened - l.k

@@ -1,0 +1,11 @@
+use Rattle.std.proofs.Common.{rules}
+use Prim.Native.Nat.{◌≤◌, ◌-◌}
+use Rattle.state.proofs.Places.{array_length}
+use Rattle.state.proofs.Pass.{PassedIn, passed_begun, pass_turn, pass_breaks, pass_told, too_many}
+use Rattle.state.proofs.Core.is_foreign.Given as goal
+
+abbrev pub invariant-loop-i : goal.invariant-loop-i
+invariant-loop-i l = (l.i ≤ l.count) × PassedIn l.self l.i l.pass
+
+abbrev pub decreases-loop-i : goal.decreases-loop-i
+decreases-loop-i l = l.count - l.i

@@ -1,0 +1,6 @@
+use Rattle.std.proofs.Common.{rules}
+use Rattle.marks.proofs.Bits.{power_fits}
+use Rattle.state.proofs.form.bit_of.Goals as goal
+
+pub returns : goal.returns
+returns c = search power_fits
