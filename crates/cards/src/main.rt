@@ -241,11 +241,24 @@ fn print_rates(rt: &impl Print, sheet: &[u8], n: u8)
     print(rt, " factors");
     print_factors(rt, tasks, n);
     print(rt, " within");
-    print_within(rt, tasks, n, sheet::pivot(cores, 0), sheet::divisor(cores, 0));
+    print_within(
+        rt,
+        tasks,
+        n,
+        sheet::pivot(cores, 0),
+        sheet::divisor(cores, 0),
+    );
 }
 
 // Cards G to I and R to T: what the planner makes. The length of the sheet is returned, 0 where it is refused.
-fn plan_card(rt: &impl Print, name: &str, jobs: &[u8], limit: u64, start: u64, out: &mut [u8]) -> usize
+fn plan_card(
+    rt: &impl Print,
+    name: &str,
+    jobs: &[u8],
+    limit: u64,
+    start: u64,
+    out: &mut [u8],
+) -> usize
     ensures { IsPrefixLen result out.new }
 {
     print(rt, name);

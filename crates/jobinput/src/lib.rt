@@ -64,13 +64,7 @@ fn reason(word: Refusal, empty: bool) -> &'static str {
 }
 
 // Says why the list of a text, empty or not, is refused. Returns the line that it names, or 0 where it names none.
-pub fn say_refused(
-    rt: &impl Eprint,
-    word: Refusal,
-    place: u16,
-    text: &[u8],
-    empty: bool,
-) -> u64
+pub fn say_refused(rt: &impl Eprint, word: Refusal, place: u16, text: &[u8], empty: bool) -> u64
     ensures { result ≡ line_named (number_of word) place text.now }
 {
     let number = sheet::number(word);
