@@ -1,7 +1,8 @@
 // Standard input as bytes, or that it could not be read; whether an argument is there; what is said of a read or a write that failed.
 #![tactic(auto)]
 
-ghost use Rattle.std.specs.Prelude.{◌≡◌, ◌≤◌, length, IfOk};
+ghost use Rattle.std.specs.Prelude.{◌≡◌, ◌<◌, ◌≤◌, length, take, IfOk};
+ghost use Rattle.std.specs.Io.KnownBytes.{Consumes, IsAtEnd};
 ghost use Rattle.input.specs.Inputs.{IsPrefixLen, Inside};
 
 use std::env::{Env, FillError};
@@ -15,19 +16,22 @@ pub enum Input {
     Failed,
 }
 
-// What an error displays, as far as it fits.
+// Room for what an error displays: at most 256 bytes of words and 23 with its number.
+const ROOM: usize = 300;
+
+// What an error displays.
 #[derive(Drop)]
 struct Words {
-    bytes: [u8; 256],
+    bytes: [u8; ROOM],
     len: usize,
-    ghost inside: { len ≤ 256 },
+    ghost inside: { len ≤ 300 },
 }
 
 impl fmt::Write for Words {
     fn write_str(&mut self, s: &str) -> fmt::Result {
         for b in s.as_bytes() {
             let at = self.len;
-            if 256 <= at {
+            if ROOM <= at {
                 return Err(fmt::Error);
             }
             self.bytes[at] = *b;
@@ -42,6 +46,8 @@ impl fmt::Write for Words {
 pub fn fill<R: Read>(reader: &mut R, buf: &mut [u8]) -> io::Result<usize>
     ensures front { IfOk result (λ n. IsPrefixLen n buf.new) }
     ensures same_length { length buf.new ≡ length buf.old }
+    ensures bytes { IfOk result (λ n. Consumes (R.remaining reader.old) (R.remaining reader.new) (take n buf.new)) }
+    ensures end { IfOk result (λ n. n < length buf.new → IsAtEnd (R.remaining reader.new)) }
 {
     let mut done = 0;
     while done < buf.len() {
@@ -54,10 +60,10 @@ pub fn fill<R: Read>(reader: &mut R, buf: &mut [u8]) -> io::Result<usize>
     Ok(done)
 }
 
-// Says on standard error that a stream failed and why, in the system's words: an error displays them before its number.
+// Says on standard error that a stream failed and why. Of what an error of the system displays these are the words without the number.
 pub fn say_failed(rt: &impl Eprint, stream: &str, error: io::Error) {
     let mut words = Words {
-        bytes: [0; 256],
+        bytes: [0; ROOM],
         len: 0,
     };
     let _ = write!(words, "{error}");
