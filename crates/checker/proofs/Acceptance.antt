@@ -18,7 +18,7 @@ use Rattle.sheet.specs.Views.{version, is_grouped, is_stroked, positioned_in, by
 use Rattle.sheet.proofs.Ranges.{neither, in_range_lem, range_in, both}
 use Rattle.sheet.proofs.Scans.{scan_clear, scan_clears, scan_skip, scan_second, scan_none, whole_clear, core_clear}
 use Rattle.fit.specs.Lists.{numbers, find, Each}
-use Rattle.fit.specs.Priority.{order, is_on}
+use Rattle.fit.specs.Priority.{is_on}
 use Rattle.fit.specs.Fits.{stretched}
 use Rattle.fit.proofs.Finds.{find_none, none_find, find_some_lem, find_some_none, none_find_some}
 use Rattle.fit.proofs.Firsts.{none_exactly}

@@ -24,7 +24,7 @@ use Rattle.fit.specs.Cores.{order_on, within_on}
 use Rattle.checker.specs.Tests.{task_spares, core_spares, bad_order, chain_break_on}
 use Rattle.checker.specs.Rules.{offset, frame_rows, spare_rows, task_rows, core_rows, fit_rows, record_rows, part_rows, rules}
 use Rattle.checker.specs.Accepted.{Acceptable, Fitting}
-use Rattle.checker.specs.Verdict.{refused, outcome, verdict}
+use Rattle.checker.specs.Verdict.{outcome, verdict}
 use Rattle.checker.proofs.Acceptance.{accepted_exactly}
 use Rattle.checker.proofs.Views.{views_fit}
 use Rattle.listing.specs.Words.{space, line_feed}

@@ -11,7 +11,6 @@ use lib.ListN.{get_or, drop}
 use lib.Seq.{get_or-drop}
 use Rattle.sheet.specs.Records.{number_at, task_count, core_count}
 use Rattle.sheet.specs.Views.{version, is_grouped, is_stroked, position_of, position_of_number, by_position, figures}
-use Rattle.fit.specs.Lists.{at}
 use Rattle.views.specs.Order.{EachOnce}
 use Rattle.views.specs.Renamed.{Agree}
 use Rattle.views.proofs.ByNumber.{position_number}

@@ -20,7 +20,7 @@ use Rattle.sheet.proofs.Scans.{scan_first, scan_second, scan_clears, scan_clear,
 use Rattle.fit.specs.declared.By.{By}
 use Rattle.fit.specs.declared.By.TheVariants.{Period, Ring}
 use Rattle.fit.specs.declared.Order.{Order}
-use Rattle.fit.specs.Lists.{at, over}
+use Rattle.fit.specs.Lists.{over}
 use Rattle.fit.proofs.Lists.{numbers_length}
 use Rattle.fit.specs.Ring.{key_of, order_by}
 use Rattle.fit.specs.Answers.{Ordered}

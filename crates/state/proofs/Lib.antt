@@ -6,3 +6,4 @@ pub mod Outcomes
 pub mod Ticking
 pub mod Strokes
 pub mod Logs
+pub mod TwoRuns

@@ -1,3 +1,4 @@
 pub mod State
 pub mod Operations
 pub mod Steps
+pub mod TwoRuns

@@ -4,7 +4,7 @@ use Prim.Native.Nat.{ℕ, zero, suc, ◌+◌, ◌*◌, ◌-◌, ◌≤◌, ◌<�
 use mathlib.Core.Path.{◌≡◌, refl, sym, ap, subst, ◌∙◌}
 use mathlib.Core.Logic.{◌⊎◌, inl, inr, ⊎_elim}
 use mathlib.Core.Bool.{Bool, true, false, cond, ◌&&◌, false≢true}
-use mathlib.Core.List.{List, [], ◌∷◌, map}
+use mathlib.Core.List.{List}
 use native.Mathlib.Nat.{mul-suc, mul-zero}
 use native.Mathlib.Omega.{arith}
 use lib.Dec.{eqb}
@@ -15,12 +15,12 @@ use Rattle.fit.specs.Lists.{Each, EachPair}
 use Rattle.fit.proofs.Lists.{each_of, each_both, each_all, each_at}
 use Rattle.timing.specs.declared.Task.{Task}
 use Rattle.timing.specs.Tasks.{pending, named, with_job, released, finished, used, older}
-use Rattle.timing.specs.Calls.{Call, release, finish, tick, Answer, refused, release_answer, modify, Stroke, no_stroke, stroke_of, turn, stroke_ticks, stroke_ticked, stroke_finished, State, next_stroke, next_by, next, run}
+use Rattle.timing.specs.Calls.{Call, release, finish, tick, Answer, refused, release_answer, modify, Stroke, no_stroke, stroke_of, turn, stroke_ticks, stroke_ticked, stroke_finished, State, next_stroke, next_by, next}
 use Rattle.timing.specs.Form.{Sound, Distinct}
 use Rattle.timing.specs.Serving.{nth, no_task}
-use Rattle.timing.specs.Strokes.{StrokeIs, StateForm}
+use Rattle.timing.specs.Strokes.{StateForm}
 use Rattle.timing.proofs.Lists.{zero_or_pos, each_map}
-use Rattle.timing.proofs.Steps.{released_cases, Changed, nowhere, here, later, changed, changed_named, changed_found, turn_pends, each_changed}
+use Rattle.timing.proofs.Steps.{released_cases, Changed, nowhere, here, later, changed, changed_named, changed_found, turn_pends}
 use Rattle.timing.proofs.Left.{finish_done}
 use Rattle.timing.proofs.Strokes.{lasting, turn_named, turn_is, task_of, ticks_lasting, ticks_begun}
 

@@ -12,7 +12,7 @@ use Rattle.fit.specs.Lists.{Each}
 use Rattle.fit.proofs.Lists.{each_of, each_all}
 use Rattle.timing.specs.declared.Task.{Task}
 use Rattle.timing.specs.Tasks.{pending, with_job, released, finished, used, older}
-use Rattle.timing.specs.Calls.{Call, release, finish, tick, Answer, release_answer, finish_answer, modify, next_by}
+use Rattle.timing.specs.Calls.{Call, release, finish, tick, release_answer, finish_answer, modify, next_by}
 use Rattle.timing.specs.Serving.{nth}
 use Rattle.timing.proofs.Rate.{sum_of, rate, due, due_older, due_released, due_le_rate}
 use Rattle.timing.proofs.Lists.{zero_or_pos, each_map, each_level, pending_place, nth_le_sum, sum_le, sum_map}

@@ -21,3 +21,4 @@ pub mod Own
 pub mod Age
 pub mod Left
 pub mod History
+pub mod TwoRuns

@@ -1,7 +1,7 @@
 -- Where every stroke is of one tick, none ever lasts, and every tick goes to the first pending task: what states of versions 1 and 2 and of
 -- job lists do. Assumes nothing.
 use Prim.Native.Nat.{ℕ, ◌-◌, ◌<◌, min}
-use mathlib.Core.Path.{◌≡◌, refl, sym, ap, ◌∙◌}
+use mathlib.Core.Path.{◌≡◌, refl, ap, ◌∙◌}
 use mathlib.Core.Logic.{⊎_elim}
 use mathlib.Core.List.{List, [], ◌∷◌}
 use native.Mathlib.Omega.{arith}

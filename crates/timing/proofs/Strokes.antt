@@ -1,13 +1,13 @@
 -- The stroke that lasts: every call keeps its form, and what it holds against a level, the first tasks by priority.
 -- Assumes nothing.
-use Prim.Native.Nat.{ℕ, zero, suc, ◌+◌, ◌-◌, ◌≤◌, ◌<◌, min}
+use Prim.Native.Nat.{ℕ, zero, suc, ◌-◌, ◌≤◌, ◌<◌, min}
 use mathlib.Core.Path.{◌≡◌, refl, sym, ap, subst, ◌∙◌}
 use mathlib.Core.Logic.{◌⊎◌, inl, inr, ⊎_elim}
 use mathlib.Core.Bool.{Bool, true, false, cond, ◌&&◌, false≢true}
 use mathlib.Core.List.{List, [], ◌∷◌, map}
 use native.Mathlib.Omega.{arith}
 use lib.Dec.{ltb, eqb}
-use lib.ListN.{length, take, get_or-map}
+use lib.ListN.{length, get_or-map}
 use borrow.Author.Tests.{lt-ltb, le-ltb, eqb-true, eqb-false, eq-eqb, ne_eqb}
 use Rattle.sheet.proofs.Ranges.{both}
 use Rattle.fit.specs.Lists.{Each, EachPair}
@@ -15,7 +15,7 @@ use Rattle.fit.proofs.Lists.{each_of, each_at}
 use Rattle.timing.specs.declared.Task.{Task}
 use Rattle.timing.specs.Tasks.{pending, named, with_job, released, finished, used, older}
 use Rattle.timing.specs.Calls.{Call, release, finish, tick, Answer, refused, release_answer, finish_answer, answer_by, of_first, modify, next_by, Stroke, no_stroke, stroke_of, turn_at, turn, stroke_ticks, stroke_ticked, stroke_finished, State, next_stroke, answer, next, run}
-use Rattle.timing.specs.Form.{Distinct, Form}
+use Rattle.timing.specs.Form.{Distinct}
 use Rattle.timing.specs.Serving.{nth, no_task}
 use Rattle.timing.specs.Strokes.{StrokeIs, StateForm}
 use Rattle.timing.proofs.Lists.{zero_or_pos}

@@ -1,31 +1,30 @@
 -- No stroke is broken: between two ticks of one stroke every tick is the task's own.
 -- Assumes nothing.
-use Prim.Native.Nat.{ℕ, zero, suc, ◌+◌, ◌*◌, ◌/◌, ◌%◌, ◌≤◌, ◌<◌}
+use Prim.Native.Nat.{ℕ, ◌+◌, ◌*◌, ◌/◌, ◌%◌, ◌<◌}
 use mathlib.Core.Path.{◌≡◌, refl, sym, ap, subst, ◌∙◌}
-use mathlib.Core.Logic.{◌⊎◌, inl, inr, ⊎_elim}
+use mathlib.Core.Logic.{⊎_elim}
 use mathlib.Core.Bool.{Bool, true, false, cond}
 use mathlib.Core.List.{List, [], ◌∷◌, ◌++◌}
 use native.Mathlib.Nat.{div-add-mod, mod-lt, mul-add-mod_self_left, mod-eq_of_lt, mul-mod_right}
 use native.Mathlib.Omega.{arith}
 use lib.ListN.{length}
-use borrow.Author.Tests.{eqb-true}
 use Rattle.fit.specs.Lists.{Each}
 use Rattle.fit.proofs.Lists.{each_of, each_at}
 use Rattle.timing.specs.declared.Task.{Task}
 use Rattle.timing.specs.Tasks.{with_job, released, finished}
-use Rattle.timing.specs.Calls.{Call, release, finish, tick, Answer, accepted, served, idle, tick_answer, release_answer, finish_answer, of_first, answer_by, next_by, turn, State, answer, next, Entry, entry, calls, log, run}
+use Rattle.timing.specs.Calls.{Call, release, finish, tick, Answer, accepted, served, release_answer, finish_answer, answer_by, next_by, turn, State, answer, next, Entry, entry, calls, log, run}
 use Rattle.timing.specs.Form.{Form, Fresh}
-use Rattle.timing.specs.OnTime.{count, to_tick, to_finish, is_accepted, is_tick, is_run, is_finish}
+use Rattle.timing.specs.OnTime.{count, to_tick, to_finish, is_tick, is_run, is_finish}
 use Rattle.timing.specs.Serving.{nth, no_task, to_release, is_release}
 use Rattle.timing.specs.Strokes.{StateForm, Unbroken}
 use Rattle.timing.proofs.Lists.{zero_or_pos}
-use Rattle.timing.proofs.Runs.{Logged, logged_append, log_split, count_cons, count_append, run_counts, run_kept, finish_entry, count_cut}
+use Rattle.timing.proofs.Runs.{Logged, logged_append, log_split, count_cons, run_counts, run_kept, finish_entry}
 use Rattle.timing.proofs.Steps.{changed_named, changed_tick, turn_pends, changed_found, bare, bare_nth, length_next, release_started}
 use Rattle.timing.proofs.Form.{form_kept, figures_kept, each_of_map}
 use Rattle.timing.proofs.Own.{Own, each_own}
 use Rattle.timing.proofs.Left.{Left, Done, Owing, owing_next, done_run, finish_done}
 use Rattle.timing.proofs.First.{tick_inside}
-use Rattle.timing.proofs.Strokes.{state_form_kept, state_form_run, own_of_place}
+use Rattle.timing.proofs.Strokes.{state_form_kept, own_of_place}
 use Rattle.timing.proofs.Aligned.{Part, inside, outside, Given, Aligned, aligned_kept}
 
 -- a tick that is answered with j goes to a pending task of that number

@@ -4,3 +4,4 @@ pub mod Form
 pub mod OnTime
 pub mod Serving
 pub mod Strokes
+pub mod TwoRuns

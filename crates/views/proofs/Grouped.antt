@@ -3,12 +3,12 @@
 use Prim.Native.Nat.{ℕ, zero, suc, ◌+◌, ◌-◌, ◌<◌}
 use mathlib.Core.Path.{◌≡◌, refl, sym, ap, subst, ◌∙◌}
 use mathlib.Core.Logic.{inl, inr}
-use mathlib.Core.Bool.{Bool, true, false, not, ◌&&◌, ◌||◌}
+use mathlib.Core.Bool.{Bool, true, false, not, ◌&&◌}
 use native.Mathlib.Omega.{arith}
-use borrow.Author.Tests.{eq-eqb, eqb-true, ltb-true, lt-ltb, not-false}
-use lib.Dec.{ltb, eqb}
+use borrow.Author.Tests.{eq-eqb, eqb-true, not-false}
+use lib.Dec.{eqb}
 use Rattle.sheet.specs.Views.{first_of, core_by_counts}
-use Rattle.sheet.proofs.Ranges.{neither, both}
+use Rattle.sheet.proofs.Ranges.{neither}
 use Rattle.fit.specs.Priority.{higher, Higher, Above}
 use Rattle.fit.proofs.Priority.{higher_true, true_higher, higher_trans}
 use Rattle.fit.proofs.Some.{some_none, none_some}

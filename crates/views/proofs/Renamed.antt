@@ -6,7 +6,6 @@ use mathlib.Core.List.{List, [], ◌∷◌, ◌++◌, map, map-id, map-append}
 use Rattle.sheet.specs.Records.{Figures}
 use Rattle.sheet.specs.Views.{position_of, renumbered}
 use Rattle.fit.specs.Lists.{sum, Each}
-use Rattle.fit.specs.Priority.{order}
 use Rattle.fit.specs.Fits.{Multiple, Multiples, last_factor, load, exact_load, full_load, blocking, level_load, overloaded_below, level_overloaded}
 use Rattle.fit.specs.Cores.{order_on}
 use Rattle.fit.proofs.Lists.{each_of, each_append}

@@ -1,4 +1,3 @@
-use Rattle.std.proofs.Common.{rules}
 use Rattle.capi.proofs.Answers.{moved_accepted, moved_served, moved_idle, moved_refused}
 use Rattle.capi.proofs.hand_back.Goals as goal
 

@@ -1,4 +1,3 @@
-use Rattle.std.proofs.Common.{rules}
 use Rattle.capi.proofs.Answers.{checked_accepted, checked_refused}
 use Rattle.capi.proofs.homvaits_check.Goals as goal
 

@@ -1,4 +1,3 @@
-use Rattle.std.proofs.Common.{rules}
 use Rattle.capi.proofs.Answers.{stepped_on}
 use Rattle.capi.proofs.homvaits_finish.Goals as goal
 

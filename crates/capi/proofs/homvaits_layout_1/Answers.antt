@@ -1,5 +1,4 @@
 use Rattle.capi.specs.Answers.{layout}
-use Rattle.std.proofs.Common.{rules}
 use Rattle.capi.proofs.homvaits_layout_1.Goals as goal
 
 pub returns : goal.returns

@@ -1,4 +1,3 @@
-use Rattle.std.proofs.Common.{rules}
 use Rattle.capi.proofs.Answers.{ticked_served, ticked_idle, ticked_refused, ticked_accepted}
 use Rattle.capi.proofs.homvaits_tick.Goals as goal
 

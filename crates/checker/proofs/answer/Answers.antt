@@ -1,4 +1,3 @@
-use Rattle.std.proofs.Common.{rules}
 use Rattle.checker.proofs.Clear.{answer_refused, answer_accepted}
 use Rattle.checker.proofs.answer.Goals as goal
 

@@ -1,4 +1,3 @@
-use Rattle.std.proofs.Common.{rules}
 use Rattle.checker.proofs.Clear.{answered}
 use Rattle.checker.proofs.check.Goals as goal
 

@@ -1,4 +1,3 @@
-use Rattle.std.proofs.Common.{rules}
 use Rattle.checker.proofs.Answers.{order_answer}
 use Rattle.checker.proofs.is_misordered.Goals as goal
 

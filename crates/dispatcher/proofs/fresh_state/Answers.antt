@@ -1,9 +1,5 @@
 use Rattle.std.proofs.Common.{rules}
-use Prim.Native.Nat.{◌+◌, ◌*◌, ◌≤◌, ◌-◌}
-use lib.ListN.{take}
-use Rattle.sheet.specs.Numbers.{word}
-use Rattle.sheet.specs.Views.{number_of_position, stroke_of_position}
-use Rattle.dispatcher.proofs.Starting.{Filled, fill_start, fill_turn, fill_end}
+use Rattle.dispatcher.proofs.Starting.{fill_start, fill_turn, fill_end}
 use Rattle.dispatcher.proofs.fresh_state.Goals as goal
 
 pub loop-i-init : goal.loop-i-init

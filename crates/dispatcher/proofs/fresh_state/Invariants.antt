@@ -1,9 +1,8 @@
-use Rattle.std.proofs.Common.{rules}
 use Prim.Native.Nat.{◌+◌, ◌*◌, ◌≤◌, ◌-◌}
 use lib.ListN.{take}
 use Rattle.sheet.specs.Numbers.{word}
 use Rattle.sheet.specs.Views.{number_of_position, stroke_of_position}
-use Rattle.dispatcher.proofs.Starting.{Filled, fill_start, fill_turn, fill_end}
+use Rattle.dispatcher.proofs.Starting.{Filled}
 use Rattle.dispatcher.proofs.fresh_state.Given as goal
 
 abbrev pub invariant-loop-i : goal.invariant-loop-i

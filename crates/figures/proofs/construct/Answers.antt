@@ -1,4 +1,3 @@
-use Rattle.std.proofs.Common.{rules}
 use Rattle.figures.specs.Steps.{construction}
 use Rattle.figures.proofs.construct.Goals as goal
 

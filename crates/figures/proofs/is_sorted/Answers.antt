@@ -1,7 +1,5 @@
 use Rattle.std.proofs.Common.{rules}
-use Prim.Native.Nat.{◌≤◌, ◌-◌}
-use lib.ListN.{length}
-use Rattle.figures.proofs.Rounds.{SortedLoop, sorted_start, sorted_low, sorted_high, sorted_turn, sorted_end}
+use Rattle.figures.proofs.Rounds.{sorted_start, sorted_low, sorted_high, sorted_turn, sorted_end}
 use Rattle.figures.proofs.is_sorted.Goals as goal
 
 pub loop-i-init : goal.loop-i-init

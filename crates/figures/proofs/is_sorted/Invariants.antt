@@ -1,7 +1,6 @@
-use Rattle.std.proofs.Common.{rules}
 use Prim.Native.Nat.{◌≤◌, ◌-◌}
 use lib.ListN.{length}
-use Rattle.figures.proofs.Rounds.{SortedLoop, sorted_start, sorted_low, sorted_high, sorted_turn, sorted_end}
+use Rattle.figures.proofs.Rounds.{SortedLoop}
 use Rattle.figures.proofs.is_sorted.Given as goal
 
 abbrev pub invariant-loop-i : goal.invariant-loop-i

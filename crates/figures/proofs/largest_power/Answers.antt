@@ -1,7 +1,6 @@
 use Rattle.std.proofs.Common.{rules}
-use Prim.Native.Nat.{suc, ◌-◌}
 use native.Mathlib.Omega.{arith}
-use Rattle.figures.proofs.Climbs.{Climb, product_fits, next_fits, climb_start, climb_power_fits, climb_fits, climb_less, climb_turn, climb_end}
+use Rattle.figures.proofs.Climbs.{product_fits, next_fits, climb_start, climb_power_fits, climb_fits, climb_less, climb_turn, climb_end}
 use Rattle.figures.proofs.largest_power.Goals as goal
 
 pub overflow_mul-next : goal.overflow_mul-next

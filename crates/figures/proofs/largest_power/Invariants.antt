@@ -1,7 +1,5 @@
-use Rattle.std.proofs.Common.{rules}
 use Prim.Native.Nat.{suc, ◌-◌}
-use native.Mathlib.Omega.{arith}
-use Rattle.figures.proofs.Climbs.{Climb, product_fits, next_fits, climb_start, climb_power_fits, climb_fits, climb_less, climb_turn, climb_end}
+use Rattle.figures.proofs.Climbs.{Climb}
 use Rattle.figures.proofs.largest_power.Given as goal
 
 abbrev pub invariant-loop-next : goal.invariant-loop-next

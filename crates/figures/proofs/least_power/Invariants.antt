@@ -1,6 +1,5 @@
-use Rattle.std.proofs.Common.{rules}
 use Prim.Native.Nat.{◌-◌}
-use Rattle.figures.proofs.Climbs.{Reach, reach_start, reach_power_fits, reach_fits, reach_less, reach_turn, reach_end}
+use Rattle.figures.proofs.Climbs.{Reach}
 use Rattle.figures.proofs.least_power.Given as goal
 
 abbrev pub invariant-loop-reach : goal.invariant-loop-reach

@@ -1,6 +1,5 @@
 use Rattle.std.proofs.Common.{rules}
-use Prim.Native.Nat.{◌+◌, ◌≤◌, ◌-◌}
-use Rattle.figures.proofs.DctLoops.{LowerLoop, lower_start, lower_turn, lower_end}
+use Rattle.figures.proofs.DctLoops.{lower_start, lower_turn, lower_end}
 use Rattle.figures.proofs.lower_factors.Goals as goal
 
 pub loop-i-init : goal.loop-i-init

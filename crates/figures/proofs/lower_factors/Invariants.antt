@@ -1,6 +1,5 @@
-use Rattle.std.proofs.Common.{rules}
 use Prim.Native.Nat.{◌+◌, ◌≤◌, ◌-◌}
-use Rattle.figures.proofs.DctLoops.{LowerLoop, lower_start, lower_turn, lower_end}
+use Rattle.figures.proofs.DctLoops.{LowerLoop}
 use Rattle.figures.proofs.lower_factors.Given as goal
 
 abbrev pub invariant-loop-i : goal.invariant-loop-i

@@ -1,6 +1,5 @@
-use Rattle.std.proofs.Common.{rules}
 use Prim.Native.Nat.{◌≤◌, ◌-◌}
-use Rattle.figures.proofs.LoadLoop.{LoadLoop, limit_fits, load_start, factor_positive, total_fits, load_turn, load_over, load_end}
+use Rattle.figures.proofs.LoadLoop.{LoadLoop}
 use Rattle.figures.proofs.passes.Given as goal
 
 abbrev pub invariant-loop-i : goal.invariant-loop-i

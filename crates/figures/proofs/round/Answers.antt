@@ -1,7 +1,5 @@
 use Rattle.std.proofs.Common.{rules}
-use Prim.Native.Nat.{◌≤◌, ◌-◌}
-use lib.ListN.{length}
-use Rattle.figures.proofs.Rounds.{RoundLoop, even, round_ready, round_start, round_hit, round_turn, round_end}
+use Rattle.figures.proofs.Rounds.{even, round_ready, round_start, round_hit, round_turn, round_end}
 use Rattle.figures.proofs.round.Goals as goal
 
 pub loop-i-init : goal.loop-i-init

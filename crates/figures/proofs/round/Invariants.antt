@@ -1,7 +1,6 @@
-use Rattle.std.proofs.Common.{rules}
 use Prim.Native.Nat.{◌≤◌, ◌-◌}
 use lib.ListN.{length}
-use Rattle.figures.proofs.Rounds.{RoundLoop, even, round_ready, round_start, round_hit, round_turn, round_end}
+use Rattle.figures.proofs.Rounds.{RoundLoop}
 use Rattle.figures.proofs.round.Given as goal
 
 abbrev pub invariant-loop-i : goal.invariant-loop-i

@@ -1,10 +1,7 @@
 use Rattle.std.proofs.Common.{rules}
-use Prim.Native.Nat.{◌-◌, ◌≤◌}
-use lib.ListN.{length}
 use Rattle.figures.proofs.Ranges.{ranges}
-use Rattle.figures.specs.Constructions.{sr}
-use Rattle.fit.proofs.Filling.{Filled, filled_start}
-use Rattle.figures.proofs.SrLoop.{SrLoop, sr_start, divisor_fits, pivot_positive, limit_small, limit_fits, power_fits, factor_fits, sr_turn, store_turn, store_end}
+use Rattle.fit.proofs.Filling.{filled_start}
+use Rattle.figures.proofs.SrLoop.{sr_start, divisor_fits, pivot_positive, limit_small, limit_fits, power_fits, factor_fits, sr_turn, store_turn, store_end}
 use Rattle.figures.proofs.sr.Goals as goal
 
 pub least_power-d-requires : goal.least_power-d-requires
@@ -17,14 +14,14 @@ pub overflow_mul-wide : goal.overflow_mul-wide
 overflow_mul-wide c = search (limit_fits, rules)
 
 pub largest_power-power-requires : goal.largest_power-power-requires
-largest_power-power-requires c = 
+largest_power-power-requires c =
     (search rules, search rules, search (pivot_positive, rules), search (limit_small, rules), search (power_fits, rules), search rules)
 
 pub overflow_cast-factors : goal.overflow_cast-factors
 overflow_cast-factors c = search (factor_fits, rules)
 
 pub loop-i-preserved : goal.loop-i-preserved
-loop-i-preserved c = 
+loop-i-preserved c =
     let s = c.loop-i.invariant.1 in
     let h = c.loop-i-test.true in (
       search rules,

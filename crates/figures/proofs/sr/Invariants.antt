@@ -1,10 +1,8 @@
-use Rattle.std.proofs.Common.{rules}
 use Prim.Native.Nat.{◌-◌, ◌≤◌}
 use lib.ListN.{length}
-use Rattle.figures.proofs.Ranges.{ranges}
 use Rattle.figures.specs.Constructions.{sr}
-use Rattle.fit.proofs.Filling.{Filled, filled_start}
-use Rattle.figures.proofs.SrLoop.{SrLoop, sr_start, divisor_fits, pivot_positive, limit_small, limit_fits, power_fits, factor_fits, sr_turn, store_turn, store_end}
+use Rattle.fit.proofs.Filling.{Filled}
+use Rattle.figures.proofs.SrLoop.{SrLoop}
 use Rattle.figures.proofs.sr.Given as goal
 
 abbrev pub invariant-loop-i : goal.invariant-loop-i

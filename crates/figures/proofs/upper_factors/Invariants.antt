@@ -1,8 +1,6 @@
-use Rattle.std.proofs.Common.{rules}
 use Prim.Native.Nat.{◌≤◌, ◌-◌}
 use lib.ListN.{length}
-use Rattle.figures.proofs.Ranges.{ranges}
-use Rattle.figures.proofs.DctLoops.{UpperLoop, upper_start, upper_divisor, upper_low, upper_high, upper_fits, upper_turn, upper_end}
+use Rattle.figures.proofs.DctLoops.{UpperLoop}
 use Rattle.figures.proofs.upper_factors.Given as goal
 
 abbrev pub invariant-loop-i : goal.invariant-loop-i

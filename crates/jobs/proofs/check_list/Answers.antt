@@ -1,4 +1,3 @@
-use Rattle.std.proofs.Common.{rules}
 use Rattle.sheet.proofs.Scans.{scan_skip, scan_hit, scan_none, whole_true, whole_false, found_at, found_none}
 use Rattle.jobs.proofs.Laws.{few}
 use native.Mathlib.Omega.{arith}

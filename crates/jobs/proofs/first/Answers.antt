@@ -1,7 +1,5 @@
 use Rattle.std.proofs.Common.{rules}
-use Prim.Native.Nat.{◌≤◌, ◌-◌}
-use Rattle.jobs.specs.Steps.{broken}
-use Rattle.fit.proofs.Finds.{Left, find_start, find_hit, find_turn, find_end}
+use Rattle.fit.proofs.Finds.{find_start, find_hit, find_turn, find_end}
 use Rattle.jobs.proofs.first.Goals as goal
 
 pub loop-i-init : goal.loop-i-init

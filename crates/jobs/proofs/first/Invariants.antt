@@ -1,7 +1,6 @@
-use Rattle.std.proofs.Common.{rules}
 use Prim.Native.Nat.{◌≤◌, ◌-◌}
 use Rattle.jobs.specs.Steps.{broken}
-use Rattle.fit.proofs.Finds.{Left, find_start, find_hit, find_turn, find_end}
+use Rattle.fit.proofs.Finds.{Left}
 use Rattle.jobs.proofs.first.Given as goal
 
 abbrev pub invariant-loop-i : goal.invariant-loop-i

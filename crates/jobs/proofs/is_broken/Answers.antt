@@ -1,4 +1,3 @@
-use Rattle.std.proofs.Common.{rules}
 use Rattle.sheet.specs.Ranges.{bad_period, bad_budget}
 use Rattle.jobs.proofs.is_broken.Goals as goal
 

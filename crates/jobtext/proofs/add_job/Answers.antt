@@ -1,4 +1,3 @@
-use Rattle.std.proofs.Common.{rules}
 use Rattle.jobtext.proofs.Texts.{add_next}
 use Rattle.jobtext.proofs.add_job.Goals as goal
 

@@ -1,4 +1,3 @@
-use Rattle.std.proofs.Common.{rules}
 use Rattle.jobtext.proofs.Texts.{step_stopped, step_end, step_byte}
 use Rattle.jobtext.proofs.advance.Goals as goal
 

@@ -1,4 +1,3 @@
-use Rattle.std.proofs.Common.{rules}
 use Rattle.jobtext.proofs.Lines.{begun_third, begun_next}
 use Rattle.jobtext.proofs.begin.Goals as goal
 

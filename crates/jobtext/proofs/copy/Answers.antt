@@ -1,8 +1,4 @@
 use Rattle.std.proofs.Common.{rules}
-use Prim.Native.Nat.{◌≤◌, ◌-◌}
-use mathlib.Core.Path.{◌≡◌}
-use mathlib.Core.List.{◌++◌}
-use lib.ListN.{length, take, drop}
 use Rattle.jobtext.proofs.Texts.{copy_next, copy_end}
 use Rattle.jobtext.proofs.copy.Goals as goal
 

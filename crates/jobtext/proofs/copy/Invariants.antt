@@ -1,9 +1,7 @@
-use Rattle.std.proofs.Common.{rules}
 use Prim.Native.Nat.{◌≤◌, ◌-◌}
 use mathlib.Core.Path.{◌≡◌}
 use mathlib.Core.List.{◌++◌}
 use lib.ListN.{length, take, drop}
-use Rattle.jobtext.proofs.Texts.{copy_next, copy_end}
 use Rattle.jobtext.proofs.copy.Given as goal
 
 abbrev pub invariant-loop-i : goal.invariant-loop-i

@@ -1,4 +1,3 @@
-use Rattle.std.proofs.Common.{rules}
 use Rattle.jobtext.proofs.Lines.{longer_kept}
 use Rattle.jobtext.proofs.extend.Goals as goal
 

@@ -1,7 +1,4 @@
-use Rattle.std.proofs.Common.{rules}
-use Prim.Native.Nat.{◌-◌}
-use lib.ListN.{length}
-use Rattle.jobtext.proofs.Texts.{Seeking, seek_start, seek_end, seek_found, seek_turn}
+use Rattle.jobtext.proofs.Texts.{seek_start, seek_end, seek_found, seek_turn}
 use Rattle.jobtext.proofs.line_of.Goals as goal
 
 pub loop-i-init : goal.loop-i-init

@@ -1,7 +1,6 @@
-use Rattle.std.proofs.Common.{rules}
 use Prim.Native.Nat.{◌-◌}
 use lib.ListN.{length}
-use Rattle.jobtext.proofs.Texts.{Seeking, seek_start, seek_end, seek_found, seek_turn}
+use Rattle.jobtext.proofs.Texts.{Seeking}
 use Rattle.jobtext.proofs.line_of.Given as goal
 
 abbrev pub invariant-loop-i : goal.invariant-loop-i

@@ -1,4 +1,3 @@
-use Rattle.std.proofs.Common.{rules}
 use Rattle.jobtext.proofs.Texts.{line_next}
 use Rattle.jobtext.proofs.next_line.Goals as goal
 

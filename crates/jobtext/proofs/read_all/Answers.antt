@@ -1,7 +1,4 @@
-use Rattle.std.proofs.Common.{rules}
-use Prim.Native.Nat.{◌-◌}
-use lib.ListN.{length}
-use Rattle.jobtext.proofs.Texts.{Reading, read_start, read_turn, read_end, read_count}
+use Rattle.jobtext.proofs.Texts.{read_start, read_turn, read_end, read_count}
 use Rattle.jobtext.proofs.read_all.Goals as goal
 
 pub loop-i-init : goal.loop-i-init

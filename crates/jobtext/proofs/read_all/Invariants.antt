@@ -1,7 +1,6 @@
-use Rattle.std.proofs.Common.{rules}
 use Prim.Native.Nat.{◌-◌}
 use lib.ListN.{length}
-use Rattle.jobtext.proofs.Texts.{Reading, read_start, read_turn, read_end, read_count}
+use Rattle.jobtext.proofs.Texts.{Reading}
 use Rattle.jobtext.proofs.read_all.Given as goal
 
 abbrev pub invariant-loop-i : goal.invariant-loop-i

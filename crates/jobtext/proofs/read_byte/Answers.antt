@@ -1,4 +1,3 @@
-use Rattle.std.proofs.Common.{rules}
 use Rattle.jobtext.proofs.Lines.{in_comment, in_digit, in_blank, in_hash, in_other}
 use Rattle.jobtext.proofs.read_byte.Goals as goal
 

@@ -1,4 +1,3 @@
-use Rattle.std.proofs.Common.{rules}
 use Rattle.jobtext.proofs.Lines.{digit_inside, digit_first}
 use Rattle.jobtext.proofs.read_digit.Goals as goal
 

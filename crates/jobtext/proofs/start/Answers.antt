@@ -1,4 +1,3 @@
-use Rattle.std.proofs.Common.{rules}
 use Rattle.jobtext.proofs.Texts.{start_line}
 use Rattle.jobtext.proofs.start.Goals as goal
 

@@ -1,4 +1,3 @@
-use Rattle.std.proofs.Common.{rules}
 use Rattle.listing.proofs.Figures.{no_break, full_positive, load_full, full_range, load_found}
 use Rattle.listing.proofs.load_of.Goals as goal
 

@@ -1,4 +1,3 @@
-use Rattle.std.proofs.Common.{rules}
 use Rattle.listing.proofs.Writing.{capped_join}
 use Rattle.listing.proofs.Lines.{core_line_lem}
 use Rattle.listing.proofs.put_core.Goals as goal

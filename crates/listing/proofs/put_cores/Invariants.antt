@@ -1,4 +1,3 @@
-use Rattle.std.proofs.Common.{rules}
 use Prim.Native.Nat.{◌≤◌, ◌-◌, ◌*◌}
 use mathlib.Core.Path.{◌≡◌}
 use lib.ListN.{length}
@@ -6,8 +5,7 @@ use Rattle.sheet.specs.Records.{figures_with}
 use Rattle.fit.specs.Lists.{numbers, at as column, joined}
 use Rattle.listing.specs.Listing.{core_line}
 use Rattle.listing.specs.Steps.{Capped, one_tick}
-use Rattle.listing.proofs.Figures.{Begins, begins_first, begins_next, part_rises, part_inside, part_order}
-use Rattle.listing.proofs.Lines.{lines_start, lines_turn, lines_end}
+use Rattle.listing.proofs.Figures.{Begins}
 use Rattle.listing.proofs.put_cores.Given as goal
 
 abbrev pub invariant-loop-k : goal.invariant-loop-k

@@ -1,4 +1,3 @@
-use Rattle.std.proofs.Common.{rules}
 use Rattle.listing.specs.Listing.{header_line}
 use Rattle.listing.proofs.Writing.{capped_join}
 use Rattle.listing.proofs.put_header.Goals as goal

@@ -15,13 +15,13 @@ pub slice_bounds-cores-start : goal.slice_bounds-cores-start
 slice_bounds-cores-start c = search (tasks_long, rules)
 
 pub put_tasks-next-requires : goal.put_tasks-next-requires
-put_tasks-next-requires c = 
+put_tasks-next-requires c =
     (sheet_fitting _ _ _ c.requires.0 _ _ _ c.is_grouped-grouped.ensures c.cores_of-on.ensures c.positions_of-positions.ensures, sheet_positions _ _ _ c.requires.0 _ _ _ c.is_grouped-grouped.ensures c.cores_of-on.ensures c.positions_of-positions.ensures, tasks_room _ _ _ c.requires.0 _ _ _ _ c.requires.1 c.put_header-next.auto.out c.put_header-next.ensures)
 
 pub put_cores-requires : goal.put_cores-requires
-put_cores-requires c = 
+put_cores-requires c =
     (c.periods_of-periods.ensures, sheet_fitting _ _ _ c.requires.0 _ _ _ c.is_grouped-grouped.ensures c.cores_of-on.ensures c.positions_of-positions.ensures, tasks_few _ _ _ c.requires.0, cores_room _ _ _ c.requires.0 _ _ _ _ c.requires.1 c.put_header-next.auto.out c.put_header-next.ensures _ _ _ c.put_tasks-next.auto.out c.put_tasks-next.ensures)
 
 pub returns : goal.returns
-returns c = 
+returns c =
     sheet_put _ _ _ c.requires.0 _ _ _ c.is_grouped-grouped.ensures c.cores_of-on.ensures c.positions_of-positions.ensures _ _ _ _ _ _ _ _ c.read_word.ensures c.put_cores.ensures c.put_tasks-next.ensures c.put_header-next.ensures

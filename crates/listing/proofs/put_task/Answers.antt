@@ -1,4 +1,3 @@
-use Rattle.std.proofs.Common.{rules}
 use native.Mathlib.Omega.{arith}
 use Rattle.listing.proofs.Writing.{capped_join}
 use Rattle.listing.proofs.Lines.{task_line_lem}

@@ -1,13 +1,5 @@
 use Rattle.std.proofs.Common.{rules}
 use native.Mathlib.Omega.{arith}
-use Prim.Native.Nat.{◌≤◌, ◌-◌, ◌*◌}
-use mathlib.Core.Path.{◌≡◌}
-use lib.ListN.{length}
-use Rattle.sheet.specs.Records.{figures_with}
-use Rattle.sheet.specs.Views.{renumbered}
-use Rattle.fit.specs.Lists.{numbers, at as column, joined}
-use Rattle.listing.specs.Listing.{task_line}
-use Rattle.listing.specs.Steps.{Capped, one_tick}
 use Rattle.listing.proofs.Lines.{lines_start, lines_end, tasks_turn, task_inside}
 use Rattle.listing.proofs.put_tasks.Goals as goal
 

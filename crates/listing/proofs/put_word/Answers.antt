@@ -1,8 +1,4 @@
 use Rattle.std.proofs.Common.{rules}
-use Prim.Native.Nat.{◌≤◌, ◌-◌}
-use mathlib.Core.Path.{◌≡◌}
-use lib.ListN.{length, take}
-use Rattle.listing.specs.Steps.{Put}
 use Rattle.listing.proofs.Writing.{word_start, word_turn, word_room, word_end}
 use Rattle.listing.proofs.put_word.Goals as goal
 

@@ -1,4 +1,3 @@
-use Rattle.std.proofs.Common.{rules}
 use Rattle.listing.proofs.Figures.{within_found, within_cast}
 use Rattle.listing.proofs.within_of.Goals as goal
 

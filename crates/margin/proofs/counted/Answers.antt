@@ -1,4 +1,3 @@
-use Rattle.std.proofs.Common.{rules}
 use Rattle.margin.proofs.counted.Goals as goal
 
 pub returns-then-one : goal.returns-then-one

@@ -1,7 +1,5 @@
-use Prim.Native.Nat.{◌≤◌, ◌-◌}
 use Rattle.std.proofs.Common.{rules}
-use lib.ListN.{length}
-use Rattle.margin.proofs.Requests.{Summed, sum_start, sum_turn, sum_end, sum_bound, request_ranged, ranged_length}
+use Rattle.margin.proofs.Requests.{sum_start, sum_turn, sum_end, sum_bound, request_ranged, ranged_length}
 use Rattle.margin.proofs.demand_at.Goals as goal
 
 pub loop-i-init : goal.loop-i-init
@@ -11,7 +9,7 @@ pub bounds-budgets-i : goal.bounds-budgets-i
 bounds-budgets-i c = search (ranged_length, rules)
 
 pub request-total-requires : goal.request-total-requires
-request-total-requires c = 
+request-total-requires c =
     let pre = c.requires in
     request_ranged _ _ _ _ pre.0 c.loop-i-test.true pre.2
 

@@ -1,7 +1,6 @@
 use Prim.Native.Nat.{◌≤◌, ◌-◌}
-use Rattle.std.proofs.Common.{rules}
 use lib.ListN.{length}
-use Rattle.margin.proofs.Requests.{Summed, sum_start, sum_turn, sum_end, sum_bound, request_ranged, ranged_length}
+use Rattle.margin.proofs.Requests.{Summed}
 use Rattle.margin.proofs.demand_at.Given as goal
 
 abbrev pub invariant-loop-i : goal.invariant-loop-i

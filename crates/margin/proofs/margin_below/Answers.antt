@@ -1,6 +1,5 @@
-use Prim.Native.Nat.{◌+◌, ◌-◌}
 use Rattle.std.proofs.Common.{rules}
-use Rattle.margin.proofs.Search.{Unmet, search_start, search_turn, search_hit, search_end}
+use Rattle.margin.proofs.Search.{search_start, search_turn, search_hit, search_end}
 use Rattle.margin.proofs.margin_below.Goals as goal
 
 pub loop-t-init : goal.loop-t-init

@@ -1,6 +1,5 @@
 use Prim.Native.Nat.{◌+◌, ◌-◌}
-use Rattle.std.proofs.Common.{rules}
-use Rattle.margin.proofs.Search.{Unmet, search_start, search_turn, search_hit, search_end}
+use Rattle.margin.proofs.Search.{Unmet}
 use Rattle.margin.proofs.margin_below.Given as goal
 
 abbrev pub invariant-loop-t : goal.invariant-loop-t

@@ -1,10 +1,8 @@
 use Prim.Native.Nat.{◌≤◌, ◌-◌}
-use Rattle.std.proofs.Common.{rules}
 use Rattle.fit.specs.Lists.{numbers}
 use Rattle.jobs.specs.Jobs.{job_period, job_budget}
 use Rattle.margin.specs.Margin.{tasks_above}
 use Rattle.margin.specs.Steps.{Gathered}
-use Rattle.margin.proofs.Gather.{gather_start, gather_turn, gather_end, count_within}
 use Rattle.margin.proofs.tasks_above.Given as goal
 
 abbrev pub invariant-loop-j : goal.invariant-loop-j

@@ -1,7 +1,6 @@
 use Rattle.std.proofs.Common.{rules}
-use Prim.Native.Nat.{◌*◌, ◌-◌, ◌+◌, ◌≤◌}
 use Rattle.marks.proofs.Bits.{count_fits, zero-counts}
-use Rattle.marks.proofs.Gathering.{place_fits, Sought, sought_start, sought_turn, sought_hit, sought_end}
+use Rattle.marks.proofs.Gathering.{place_fits, sought_start, sought_turn, sought_hit, sought_end}
 use Rattle.marks.proofs.first_marked.Goals as goal
 
 pub loop-g-init : goal.loop-g-init

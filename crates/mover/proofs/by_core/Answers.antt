@@ -1,4 +1,3 @@
-use Rattle.std.proofs.Common.{rules}
 use Rattle.mover.proofs.Arranging.{core_arranged}
 use Rattle.mover.proofs.by_core.Goals as goal
 

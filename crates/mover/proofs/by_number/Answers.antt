@@ -1,4 +1,3 @@
-use Rattle.std.proofs.Common.{rules}
 use Rattle.mover.proofs.Arranging.{number_arranged}
 use Rattle.mover.proofs.by_number.Goals as goal
 

@@ -1,6 +1,5 @@
 use Rattle.std.proofs.Common.{rules}
-use Prim.Native.Nat.{◌≤◌, ◌-◌}
-use Rattle.mover.proofs.Records.{Copied, copy_start, copy_turn, copy_end, copy_through}
+use Rattle.mover.proofs.Records.{copy_start, copy_turn, copy_end, copy_through}
 use Rattle.mover.proofs.copy.Goals as goal
 
 pub returns-then-a-n : goal.returns-then-a-n

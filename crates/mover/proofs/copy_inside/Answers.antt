@@ -1,6 +1,5 @@
 use Rattle.std.proofs.Common.{rules}
-use Prim.Native.Nat.{◌≤◌, ◌-◌}
-use Rattle.mover.proofs.Records.{Copied, copy_start, copy_turn, copy_end}
+use Rattle.mover.proofs.Records.{copy_start, copy_turn, copy_end}
 use Rattle.mover.proofs.copy_inside.Goals as goal
 
 pub loop-i-init : goal.loop-i-init

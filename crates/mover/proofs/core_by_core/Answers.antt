@@ -1,7 +1,5 @@
 use Rattle.std.proofs.Common.{rules}
-use Prim.Native.Nat.{◌≤◌, ◌-◌, min}
-use Rattle.fit.specs.Lists.{at}
-use Rattle.mover.proofs.Gathering.{Gathered, gather_start, gather_rises, gather_fits, gather_turn, gather_end}
+use Rattle.mover.proofs.Gathering.{gather_start, gather_rises, gather_fits, gather_turn, gather_end}
 use Rattle.mover.proofs.core_by_core.Goals as goal
 
 pub loop-k-init : goal.loop-k-init

@@ -1,4 +1,3 @@
-use Rattle.std.proofs.Common.{rules}
 use Rattle.checker.specs.Tests.{is_marked}
 use Rattle.mover.specs.Steps.{unmovable}
 use Rattle.mover.proofs.is_unmovable.Goals as goal

@@ -1,8 +1,5 @@
 use Rattle.std.proofs.Common.{rules}
-use Prim.Native.Nat.{◌≤◌, ◌-◌}
-use Rattle.fit.specs.Answers.{Column}
 use Rattle.fit.proofs.Sorting.{fill_start, fill_turn, fill_end}
-use Rattle.mover.specs.Steps.{found}
 use Rattle.mover.proofs.Arranging.{found_at}
 use Rattle.mover.proofs.look_up.Goals as goal
 

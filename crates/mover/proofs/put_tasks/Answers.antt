@@ -1,7 +1,5 @@
 use Rattle.std.proofs.Common.{rules}
-use Prim.Native.Nat.{◌≤◌, ◌-◌}
-use Rattle.fit.proofs.Laying.{Laid, lay_start, lay_end}
-use Rattle.mover.specs.Steps.{task_bytes}
+use Rattle.fit.proofs.Laying.{lay_start, lay_end}
 use Rattle.mover.proofs.Records.{task_turn}
 use Rattle.mover.proofs.put_tasks.Goals as goal
 

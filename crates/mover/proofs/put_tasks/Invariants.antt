@@ -1,8 +1,6 @@
-use Rattle.std.proofs.Common.{rules}
 use Prim.Native.Nat.{◌≤◌, ◌-◌}
-use Rattle.fit.proofs.Laying.{Laid, lay_start, lay_end}
+use Rattle.fit.proofs.Laying.{Laid}
 use Rattle.mover.specs.Steps.{task_bytes}
-use Rattle.mover.proofs.Records.{task_turn}
 use Rattle.mover.proofs.put_tasks.Given as goal
 
 abbrev pub invariant-loop-i : goal.invariant-loop-i

@@ -1,4 +1,3 @@
-use Rattle.std.proofs.Common.{rules}
 use Rattle.mover.proofs.Writing.{sheet_length, sheet_written}
 use Rattle.mover.proofs.write_sheet.Goals as goal
 

@@ -1,4 +1,4 @@
-use Rattle.std.proofs.Common.{ℕ, ◌≡◌, ◌+◌, ◌<◌, ◌≤◌, List, [], ◌++◌, arith, ap, sym, ◌∙◌, set, map, drop, length}
+use Rattle.std.proofs.Common.{ℕ, ◌≡◌, ◌+◌, ◌<◌, ◌≤◌, List, [], arith, ap, ◌∙◌, set, length}
 use Rattle.std.proofs.lemmas.List.{length-map}
 use Rattle.fit.proofs.Overwriting.{overwritten, over_at, over_turn, self_turn, over_end}
 use Rattle.timing.specs.Calls.{tick}

@@ -11,7 +11,7 @@ invariant-loop-i l =
     record {
       within : l.i ≤ length l.fn.row;
       states : l.row ≡ overwritten (step tick) l.fn.row l.fn.row l.i;
-      bytes : l.answers ≡ overwritten (λ s. answer_byte (ask tick s)) l.fn.row l.fn.answers l.i
+      bytes : l.answers ≡ overwritten (λ s. answer_byte (ask tick s)) l.fn.row l.fn.answers l.i;
     }
 
 abbrev pub decreases-loop-i : goal.decreases-loop-i

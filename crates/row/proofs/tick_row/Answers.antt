@@ -1,5 +1,4 @@
-use Rattle.std.proofs.Common.{◌≡◌, ◌≤◌, ◌<◌, length}
-use Rattle.row.proofs.Outcomes.{Gives, too_short, found_foreign, all_ticked}
+use Rattle.row.proofs.Outcomes.{too_short, found_foreign, all_ticked}
 use Rattle.row.proofs.Runs.{row_runs}
 use Rattle.row.proofs.tick_row.Goals as goal
 

@@ -1,4 +1,3 @@
-use Rattle.std.proofs.Common.{rules}
 use Rattle.sheet.proofs.is_stroked.Goals as goal
 
 pub returns : goal.returns

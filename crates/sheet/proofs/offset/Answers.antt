@@ -11,7 +11,7 @@ overflow_mul-result c = let a : c.args.size ≤ 255 = omega arith in
     omega arith
 
 pub returns : goal.returns
-returns c = 
+returns c =
     let a : c.args.size ≤ 255 = omega arith in
     let b : c.args.i ≤ 255 = omega arith in
     (refl, mul-le-mul a b)

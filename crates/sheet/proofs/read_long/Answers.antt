@@ -1,4 +1,3 @@
-use Rattle.std.proofs.Common.{rules}
 use Rattle.sheet.proofs.Past.{past_long, long_bytes, long_words}
 use Rattle.sheet.proofs.read_long.Goals as goal
 

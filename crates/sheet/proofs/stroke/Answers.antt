@@ -1,4 +1,3 @@
-use Rattle.std.proofs.Common.{rules}
 use Rattle.sheet.proofs.stroke.Goals as goal
 
 pub returns-then-stroked : goal.returns-then-stroked

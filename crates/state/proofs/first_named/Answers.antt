@@ -1,8 +1,5 @@
 use Rattle.std.proofs.Common.{rules}
-use Prim.Native.Nat.{◌≤◌, ◌-◌}
-use Rattle.timing.specs.Tasks.{named}
-use Rattle.state.specs.State.{tasks_of}
-use Rattle.fit.proofs.Finds.{Searched, place_start, place_end}
+use Rattle.fit.proofs.Finds.{place_start, place_end}
 use Rattle.state.proofs.Places.{task_hit, task_turn, is_named, not_named, array_length}
 use Rattle.state.proofs.first_named.Goals as goal
 

@@ -1,10 +1,6 @@
 use Rattle.std.proofs.Common.{rules}
-use Prim.Native.Nat.{◌≤◌, ◌-◌}
 use mathlib.Core.Bool.{false≢true}
-use Rattle.sheet.specs.Records.{figures_with}
-use Rattle.sheet.specs.Views.{stroke_of_position}
-use Rattle.fit.specs.Lists.{at}
-use Rattle.checker.proofs.Sound.{Below, below_start, below_turn, below_end}
+use Rattle.checker.proofs.Sound.{below_start, below_turn, below_end}
 use Rattle.checker.proofs.early.all_sound.Goals as goal
 
 pub loop-i-init : goal.loop-i-init

@@ -1,10 +1,8 @@
-use Rattle.std.proofs.Common.{rules}
 use Prim.Native.Nat.{◌≤◌, ◌-◌}
-use mathlib.Core.Bool.{false≢true}
 use Rattle.sheet.specs.Records.{figures_with}
 use Rattle.sheet.specs.Views.{stroke_of_position}
 use Rattle.fit.specs.Lists.{at}
-use Rattle.checker.proofs.Sound.{Below, below_start, below_turn, below_end}
+use Rattle.checker.proofs.Sound.{Below}
 use Rattle.checker.proofs.early.all_sound.Given as goal
 
 abbrev pub invariant-loop-i : goal.invariant-loop-i

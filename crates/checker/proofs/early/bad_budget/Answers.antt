@@ -1,4 +1,3 @@
-use Rattle.std.proofs.Common.{rules}
 use Rattle.sheet.specs.Ranges.{bad_budget}
 use Rattle.checker.proofs.early.bad_budget.Goals as goal
 

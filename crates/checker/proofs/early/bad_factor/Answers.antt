@@ -1,4 +1,3 @@
-use Rattle.std.proofs.Common.{rules}
 use Rattle.checker.specs.Tests.{bad_factor}
 use Rattle.checker.proofs.early.bad_factor.Goals as goal
 

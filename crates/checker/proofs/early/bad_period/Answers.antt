@@ -1,4 +1,3 @@
-use Rattle.std.proofs.Common.{rules}
 use Rattle.sheet.specs.Ranges.{bad_period}
 use Rattle.checker.proofs.early.bad_period.Goals as goal
 

@@ -1,4 +1,3 @@
-use Rattle.std.proofs.Common.{rules}
 use Rattle.checker.proofs.Answers.{stroke_answer}
 use Rattle.checker.proofs.early.bad_stroke.Goals as goal
 

@@ -1,7 +1,6 @@
 use Rattle.checker.specs.Rules.{core_rows}
 use Rattle.sheet.proofs.Scans.{scan_skip, scan_hit, scan_none, found_at, found_none, core_at, core_none}
 use Rattle.checker.proofs.Sound.{factors_clear, stretch_clear}
-use Rattle.std.proofs.Common.{rules}
 use Rattle.checker.proofs.early.bare_rules.Goals as goal
 
 pub returns-in-At : goal.returns-in-At

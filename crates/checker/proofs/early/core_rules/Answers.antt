@@ -1,6 +1,5 @@
 use Rattle.checker.specs.Rules.{core_rows}
 use Rattle.sheet.proofs.Scans.{scan_skip, scan_hit, scan_none, found_at, found_none, core_at, core_none}
-use Rattle.std.proofs.Common.{rules}
 use Rattle.checker.proofs.early.core_rules.Goals as goal
 
 pub returns-in-At : goal.returns-in-At

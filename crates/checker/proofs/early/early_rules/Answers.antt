@@ -1,4 +1,3 @@
-use Rattle.std.proofs.Common.{rules}
 use Rattle.checker.proofs.Sound.{early_misordered, early_fast, early_broken, early_slow}
 use Rattle.checker.proofs.early.early_rules.Goals as goal
 

@@ -1,10 +1,5 @@
 use Rattle.std.proofs.Common.{rules}
-use Prim.Native.Nat.{◌≤◌, ◌-◌}
-use Rattle.sheet.specs.Records.{figures_with}
-use Rattle.sheet.specs.Views.{stroke_of_position}
-use Rattle.fit.specs.Lists.{at}
-use Rattle.checker.specs.Steps.{broken}
-use Rattle.fit.proofs.Finds.{Left, find_start, find_hit, find_turn, find_end}
+use Rattle.fit.proofs.Finds.{find_start, find_hit, find_turn, find_end}
 use Rattle.checker.proofs.early.first.Goals as goal
 
 pub loop-i-init : goal.loop-i-init

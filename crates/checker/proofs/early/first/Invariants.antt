@@ -1,10 +1,9 @@
-use Rattle.std.proofs.Common.{rules}
 use Prim.Native.Nat.{◌≤◌, ◌-◌}
 use Rattle.sheet.specs.Records.{figures_with}
 use Rattle.sheet.specs.Views.{stroke_of_position}
 use Rattle.fit.specs.Lists.{at}
 use Rattle.checker.specs.Steps.{broken}
-use Rattle.fit.proofs.Finds.{Left, find_start, find_hit, find_turn, find_end}
+use Rattle.fit.proofs.Finds.{Left}
 use Rattle.checker.proofs.early.first.Given as goal
 
 abbrev pub invariant-loop-i : goal.invariant-loop-i

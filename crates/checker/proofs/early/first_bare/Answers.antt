@@ -1,9 +1,5 @@
 use Rattle.std.proofs.Common.{rules}
-use Prim.Native.Nat.{◌≤◌, ◌-◌}
-use Rattle.fit.specs.Lists.{at}
-use Rattle.fit.proofs.Finds.{Left, find_start, find_end}
-use Rattle.checker.specs.Tests.{bare}
-use Rattle.checker.specs.Steps.{Used}
+use Rattle.fit.proofs.Finds.{find_start, find_end}
 use Rattle.checker.proofs.Bare.{bare_hit, bare_turn}
 use Rattle.checker.proofs.early.first_bare.Goals as goal
 

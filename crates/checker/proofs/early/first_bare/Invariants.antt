@@ -1,10 +1,8 @@
-use Rattle.std.proofs.Common.{rules}
 use Prim.Native.Nat.{◌≤◌, ◌-◌}
 use Rattle.fit.specs.Lists.{at}
-use Rattle.fit.proofs.Finds.{Left, find_start, find_end}
+use Rattle.fit.proofs.Finds.{Left}
 use Rattle.checker.specs.Tests.{bare}
 use Rattle.checker.specs.Steps.{Used}
-use Rattle.checker.proofs.Bare.{bare_hit, bare_turn}
 use Rattle.checker.proofs.early.first_bare.Given as goal
 
 abbrev pub invariant-loop-k : goal.invariant-loop-k

@@ -1,4 +1,3 @@
-use Rattle.std.proofs.Common.{rules}
 use Rattle.checker.proofs.Answers.{test_broken}
 use Rattle.checker.specs.declared.early.Test.TheVariants.{Period, Budget, Stroke, Core, Factor, Pivot, Stretch}
 use Rattle.checker.proofs.early.is_broken.Goals as goal

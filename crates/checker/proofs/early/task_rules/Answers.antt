@@ -1,4 +1,3 @@
-use Rattle.std.proofs.Common.{rules}
 use Rattle.checker.specs.Rules.{task_rows}
 use Rattle.sheet.proofs.Scans.{scan_skip, scan_hit, scan_none, found_at, found_none, whole_true, whole_false}
 use Rattle.checker.proofs.early.task_rules.Goals as goal

@@ -1,7 +1,5 @@
 use Rattle.std.proofs.Common.{rules}
-use Prim.Native.Nat.{◌≤◌, ◌-◌}
-use Rattle.fit.specs.Lists.{at}
-use Rattle.checker.proofs.Bare.{Flags, flags_start, flags_turn, flags_end}
+use Rattle.checker.proofs.Bare.{flags_start, flags_turn, flags_end}
 use Rattle.checker.proofs.early.used_cores.Goals as goal
 
 pub loop-i-init : goal.loop-i-init

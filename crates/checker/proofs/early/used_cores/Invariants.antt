@@ -1,7 +1,6 @@
-use Rattle.std.proofs.Common.{rules}
 use Prim.Native.Nat.{◌≤◌, ◌-◌}
 use Rattle.fit.specs.Lists.{at}
-use Rattle.checker.proofs.Bare.{Flags, flags_start, flags_turn, flags_end}
+use Rattle.checker.proofs.Bare.{Flags}
 use Rattle.checker.proofs.early.used_cores.Given as goal
 
 abbrev pub invariant-loop-i : goal.invariant-loop-i

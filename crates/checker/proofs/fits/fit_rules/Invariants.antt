@@ -1,5 +1,3 @@
-use native.Mathlib.Omega.{arith}
-use Rattle.std.proofs.Common.{rules}
 use Prim.Native.Nat.{◌≤◌, ◌<◌, ◌-◌, min}
 use mathlib.Core.Path.{◌≡◌}
 use lib.ListN.{length}
@@ -7,10 +5,7 @@ use Rattle.sheet.specs.Records.{period_at, figures_with}
 use Rattle.sheet.specs.Views.{stroke_of_position}
 use Rattle.fit.specs.Lists.{at}
 use Rattle.order.specs.Cores.{on_cores, ByCore}
-use Rattle.order.proofs.Cutting.{cut_start}
-use Rattle.sheet.proofs.Scans.{scan_skip, scan_hit, scan_none, core_at, core_none}
-use Rattle.checker.specs.Rules.{fit_rows}
-use Rattle.checker.proofs.Judging.{sorted_cores, sorted_above, part_rises, part_next, part_members, part_judged, Passed, fit_start, fit_broken, fit_turn, fit_end, fit_clear, fit_over}
+use Rattle.checker.proofs.Judging.{Passed}
 use Rattle.checker.proofs.fits.fit_rules.Given as goal
 
 abbrev pub invariant-loop-k : goal.invariant-loop-k

@@ -1,5 +1,4 @@
 use Rattle.checker.proofs.Judging.{over_broken, over_whole}
-use Rattle.std.proofs.Common.{rules}
 use Rattle.checker.proofs.fits.judge_over.Goals as goal
 
 pub returns-in-Broken : goal.returns-in-Broken

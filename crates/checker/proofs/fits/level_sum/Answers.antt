@@ -1,6 +1,5 @@
 use native.Mathlib.Omega.{arith}
 use Rattle.fit.proofs.Passes.{level_bound}
-use Rattle.std.proofs.Common.{rules}
 use Rattle.checker.proofs.fits.level_sum.Goals as goal
 
 pub overflow_mul-result-2 : goal.overflow_mul-result-2

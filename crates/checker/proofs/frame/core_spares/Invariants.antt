@@ -1,8 +1,7 @@
-use Rattle.std.proofs.Common.{rules}
 use Prim.Native.Nat.{◌≤◌, ◌-◌, ◌*◌, ◌+◌}
 use mathlib.Core.Path.{◌≡◌}
 use Rattle.checker.specs.Tests.{core_spares}
-use Rattle.checker.proofs.Spares.{To, core_start, core_hit, core_hit_2, core_turn, core_end}
+use Rattle.checker.proofs.Spares.{To}
 use Rattle.checker.proofs.frame.core_spares.Given as goal
 
 abbrev pub invariant-loop-k : goal.invariant-loop-k

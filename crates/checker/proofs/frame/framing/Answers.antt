@@ -1,4 +1,3 @@
-use Rattle.std.proofs.Common.{rules}
 use Rattle.checker.specs.Rules.{frame_rows}
 use Rattle.sheet.proofs.Scans.{scan_skip, scan_hit, scan_none, whole_true, whole_false}
 use Rattle.checker.proofs.frame.framing.Goals as goal

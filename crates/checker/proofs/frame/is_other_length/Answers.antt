@@ -1,4 +1,3 @@
-use Rattle.std.proofs.Common.{rules}
 use Rattle.checker.proofs.frame.is_other_length.Goals as goal
 
 pub returns : goal.returns

@@ -1,4 +1,3 @@
-use Rattle.std.proofs.Common.{rules}
 use Rattle.checker.specs.Tests.{bad_version}
 use Rattle.checker.proofs.frame.is_other_version.Goals as goal
 

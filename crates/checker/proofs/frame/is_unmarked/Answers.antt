@@ -1,4 +1,3 @@
-use Rattle.std.proofs.Common.{rules}
 use Rattle.checker.specs.Tests.{is_marked}
 use Rattle.checker.proofs.frame.is_unmarked.Goals as goal
 

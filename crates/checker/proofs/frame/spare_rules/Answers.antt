@@ -1,4 +1,3 @@
-use Rattle.std.proofs.Common.{rules}
 use Rattle.checker.specs.Rules.{spare_rows}
 use Rattle.sheet.proofs.Scans.{scan_skip, scan_hit, row_hit, row_skip}
 use Rattle.checker.proofs.Spares.{header_hit, header_clear}

@@ -1,9 +1,8 @@
-use Rattle.std.proofs.Common.{rules}
 use Prim.Native.Nat.{◌≤◌, ◌-◌, ◌*◌}
 use mathlib.Core.Path.{◌≡◌}
 use mathlib.Core.Bool.{false}
 use Rattle.checker.specs.Tests.{task_spares}
-use Rattle.checker.proofs.Spares.{To, task_none, task_start, task_hit, task_turn, task_end}
+use Rattle.checker.proofs.Spares.{To}
 use Rattle.checker.proofs.frame.task_spares.Given as goal
 
 abbrev pub invariant-loop-i : goal.invariant-loop-i

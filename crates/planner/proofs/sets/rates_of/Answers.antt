@@ -1,8 +1,7 @@
 use Rattle.std.proofs.Common.{rules}
-use Prim.Native.Nat.{◌≤◌, ◌-◌}
 use Rattle.fit.proofs.Sorting.{ordered_length}
 use Rattle.planner.proofs.Fitting.{prioritized_few, ordered_few, ordered_room}
-use Rattle.planner.proofs.Rating.{Rating, rate_start, rate_turn, rate_end}
+use Rattle.planner.proofs.Rating.{rate_start, rate_turn, rate_end}
 use Rattle.planner.proofs.sets.rates_of.Goals as goal
 
 pub loop-k-init : goal.loop-k-init

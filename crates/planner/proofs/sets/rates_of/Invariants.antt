@@ -1,8 +1,5 @@
-use Rattle.std.proofs.Common.{rules}
 use Prim.Native.Nat.{◌≤◌, ◌-◌}
-use Rattle.fit.proofs.Sorting.{ordered_length}
-use Rattle.planner.proofs.Fitting.{prioritized_few, ordered_few, ordered_room}
-use Rattle.planner.proofs.Rating.{Rating, rate_start, rate_turn, rate_end}
+use Rattle.planner.proofs.Rating.{Rating}
 use Rattle.planner.proofs.sets.rates_of.Given as goal
 
 abbrev pub invariant-loop-k : goal.invariant-loop-k

@@ -1,8 +1,4 @@
 use Rattle.std.proofs.Common.{rules}
-use Prim.Native.Nat.{◌≤◌, ◌-◌}
-use mathlib.Core.Path.{◌≡◌}
-use lib.ListN.{length, drop}
-use Rattle.planner.specs.Steps.{spread}
 use Rattle.planner.proofs.Gathering.{spread_turn, spread_end}
 use Rattle.planner.proofs.sets.spread.Goals as goal
 

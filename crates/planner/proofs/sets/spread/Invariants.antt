@@ -1,9 +1,7 @@
-use Rattle.std.proofs.Common.{rules}
 use Prim.Native.Nat.{◌≤◌, ◌-◌}
 use mathlib.Core.Path.{◌≡◌}
 use lib.ListN.{length, drop}
 use Rattle.planner.specs.Steps.{spread}
-use Rattle.planner.proofs.Gathering.{spread_turn, spread_end}
 use Rattle.planner.proofs.sets.spread.Given as goal
 
 abbrev pub invariant-loop-m : goal.invariant-loop-m

@@ -1,8 +1,7 @@
-use Rattle.std.proofs.Common.{rules}
 use Prim.Native.Nat.{◌≤◌, ◌-◌}
 use lib.ListN.{length}
 use Rattle.jobs.specs.Jobs.{job_period, job_budget}
-use Rattle.planner.proofs.Gathering.{Filled, gather_start, gather_turn, gather_end}
+use Rattle.planner.proofs.Gathering.{Filled}
 use Rattle.planner.proofs.sets.task_set.Given as goal
 
 abbrev pub invariant-loop-j : goal.invariant-loop-j

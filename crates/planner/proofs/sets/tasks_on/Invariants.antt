@@ -1,9 +1,8 @@
-use Rattle.std.proofs.Common.{rules}
 use Prim.Native.Nat.{◌≤◌, ◌-◌}
 use lib.ListN.{length}
 use Rattle.fit.specs.Lists.{at}
 use Rattle.fit.specs.Priority.{is_on}
-use Rattle.planner.proofs.Gathering.{Picked, pick_start, pick_turn, pick_end}
+use Rattle.planner.proofs.Gathering.{Picked}
 use Rattle.planner.proofs.sets.tasks_on.Given as goal
 
 abbrev pub invariant-loop-j : goal.invariant-loop-j

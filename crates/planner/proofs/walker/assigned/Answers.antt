@@ -1,4 +1,3 @@
-use Rattle.std.proofs.Common.{rules}
 use Rattle.planner.proofs.Fitting.{assign_open, assign_new}
 use Rattle.planner.proofs.walker.assigned.Goals as goal
 

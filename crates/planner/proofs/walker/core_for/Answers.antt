@@ -1,4 +1,3 @@
-use Rattle.std.proofs.Common.{rules}
 use Rattle.planner.proofs.Fitting.{core_open, core_new, core_none}
 use Rattle.planner.proofs.walker.core_for.Goals as goal
 

@@ -1,8 +1,5 @@
 use Rattle.std.proofs.Common.{rules}
-use Prim.Native.Nat.{◌≤◌, ◌-◌}
-use Rattle.fit.proofs.Finds.{Left, find_start, find_hit, find_turn, find_end}
-use Rattle.jobs.specs.Jobs.{job_count, job_period, job_budget}
-use Rattle.planner.specs.FirstFit.{takes}
+use Rattle.fit.proofs.Finds.{find_start, find_hit, find_turn, find_end}
 use Rattle.planner.proofs.walker.first_open.Goals as goal
 
 pub loop-k-init : goal.loop-k-init

@@ -1,6 +1,5 @@
-use Rattle.std.proofs.Common.{rules}
 use Prim.Native.Nat.{◌≤◌, ◌-◌}
-use Rattle.fit.proofs.Finds.{Left, find_start, find_hit, find_turn, find_end}
+use Rattle.fit.proofs.Finds.{Left}
 use Rattle.jobs.specs.Jobs.{job_count, job_period, job_budget}
 use Rattle.planner.specs.FirstFit.{takes}
 use Rattle.planner.proofs.walker.first_open.Given as goal

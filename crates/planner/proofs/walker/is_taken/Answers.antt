@@ -1,4 +1,3 @@
-use Rattle.std.proofs.Common.{rules}
 use Rattle.planner.proofs.Fitting.{taken}
 use Rattle.planner.proofs.walker.is_taken.Goals as goal
 

@@ -1,8 +1,7 @@
-use Rattle.std.proofs.Common.{rules}
 use Prim.Native.Nat.{◌≤◌, ◌-◌}
 use lib.ListN.{length}
 use Rattle.jobs.specs.Jobs.{job_count, job_period, job_budget}
-use Rattle.planner.proofs.Fitting.{Walked, walk_start, walk_stop, walk_turn, walk_end}
+use Rattle.planner.proofs.Fitting.{Walked}
 use Rattle.planner.proofs.walker.walk.Given as goal
 
 abbrev pub invariant-loop-j : goal.invariant-loop-j

@@ -1,7 +1,5 @@
 use Rattle.std.proofs.Common.{rules}
-use Prim.Native.Nat.{◌≤◌, ◌-◌}
-use Rattle.fit.proofs.Laying.{Laid, lay_start, lay_end}
-use Rattle.planner.specs.Steps.{core_bytes}
+use Rattle.fit.proofs.Laying.{lay_start, lay_end}
 use Rattle.planner.proofs.Writing.{core_turn}
 use Rattle.planner.proofs.writer.put_cores.Goals as goal
 

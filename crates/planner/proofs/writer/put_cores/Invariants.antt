@@ -1,8 +1,6 @@
-use Rattle.std.proofs.Common.{rules}
 use Prim.Native.Nat.{◌≤◌, ◌-◌}
-use Rattle.fit.proofs.Laying.{Laid, lay_start, lay_end}
+use Rattle.fit.proofs.Laying.{Laid}
 use Rattle.planner.specs.Steps.{core_bytes}
-use Rattle.planner.proofs.Writing.{core_turn}
 use Rattle.planner.proofs.writer.put_cores.Given as goal
 
 abbrev pub invariant-loop-k : goal.invariant-loop-k

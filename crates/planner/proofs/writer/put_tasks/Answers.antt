@@ -1,7 +1,5 @@
 use Rattle.std.proofs.Common.{rules}
-use Prim.Native.Nat.{◌≤◌, ◌-◌}
-use Rattle.fit.proofs.Laying.{Laid, lay_start, lay_end}
-use Rattle.planner.specs.Steps.{task_bytes}
+use Rattle.fit.proofs.Laying.{lay_start, lay_end}
 use Rattle.planner.proofs.Writing.{task_turn}
 use Rattle.planner.proofs.writer.put_tasks.Goals as goal
 

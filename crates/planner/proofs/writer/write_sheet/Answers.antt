@@ -1,4 +1,3 @@
-use Rattle.std.proofs.Common.{rules}
 use Rattle.planner.proofs.Writing.{sheet_length, sheet_written}
 use Rattle.planner.proofs.writer.write_sheet.Goals as goal
 

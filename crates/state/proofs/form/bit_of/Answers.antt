@@ -1,4 +1,3 @@
-use Rattle.std.proofs.Common.{rules}
 use Rattle.marks.proofs.Bits.{power_fits}
 use Rattle.state.proofs.form.bit_of.Goals as goal
 
