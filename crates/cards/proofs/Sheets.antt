@@ -5,7 +5,7 @@ use mathlib.Core.Path.{◌≡◌}
 use mathlib.Core.List.{List}
 use native.Mathlib.Omega.{arith}
 use lib.ListN.{length-take}
-use Rattle.io.specs.Counts.{IsPrefixLen}
+use Rattle.input.specs.Inputs.{IsPrefixLen}
 use Rattle.planner.specs.declared.Planned.{Planned}
 use Rattle.planner.specs.declared.Planned.TheVariants.{Written}
 use Rattle.planner.specs.Plan.{Accepting}

@@ -4,13 +4,12 @@
 #![tactic(auto)]
 
 ghost use Rattle.std.specs.Prelude.{◌+◌, ◌*◌, ◌≤◌, ◌≡◌, true, length};
-ghost use Rattle.io.specs.Counts.{IsPrefixLen};
+ghost use Rattle.input.specs.Inputs.{IsPrefixLen};
 ghost use Rattle.fit.specs.Fits.{within as withinOf};
 ghost use Rattle.cards.specs.Cards.{header, listed as listedSheet, seven, jobs_g, jobs_h, jobs_i, jobs_l, jobs_n, jobs_r, jobs_s, jobs_t, jobs_v, jobs_w, unchained as unchainedSheet, nearly_full, overfull as overfullSheet, grouped as groupedSheet, ungrouped as ungroupedSheet, stroked as strokedSheet, stroked_three};
 
 use checker::Verdict;
 use fit::By;
-use libc::STDOUT_FILENO;
 use listing::Listed;
 use margin::Slack;
 use mover::Moved;
@@ -18,20 +17,19 @@ use planner::Planned;
 use sheet::Refusal;
 use state::{Answer, Core, Step};
 
-fn print(text: &[u8]) {
-    io::write_all(STDOUT_FILENO, text);
+fn print(rt: &impl Print, text: &str) {
+    let _ = rt.print(text);
 }
 
 // A space and a number.
-fn print_number(n: u64) {
-    print(b" ");
-    io::print_decimal(STDOUT_FILENO, n);
+fn print_number(rt: &impl Print, n: u64) {
+    let _ = print!(rt; " {n}");
 }
 
-fn print_refused(word: Refusal, place: u16) {
-    print(b" refused");
-    print_number(sheet::number(word) as u64);
-    print_number(place as u64);
+fn print_refused(rt: &impl Print, word: Refusal, place: u16) {
+    print(rt, " refused");
+    print_number(rt, sheet::number(word) as u64);
+    print_number(rt, place as u64);
 }
 
 // The inputs of the cards.
@@ -179,27 +177,27 @@ fn stroked_three(q: u8, r: u8) -> [u8; 46]
 }
 
 // Cards A to F, O to Q, Y, AA, AC and AE: what the checker answers.
-fn check_card(name: &[u8], sheet: &[u8]) {
-    print(name);
+fn check_card(rt: &impl Print, name: &str, sheet: &[u8]) {
+    print(rt, name);
     let verdict = checker::check(sheet);
     match verdict {
         Verdict::Accepted { tasks, cores } => {
-            print(b" accepted");
-            print_number(tasks as u64);
-            print_number(cores as u64);
+            print(rt, " accepted");
+            print_number(rt, tasks as u64);
+            print_number(rt, cores as u64);
         }
-        Verdict::Refused { word, place } => print_refused(word, place),
+        Verdict::Refused { word, place } => print_refused(rt, word, place),
     }
-    print(b"\n");
+    print(rt, "\n");
 }
 
-fn check_cards() {
-    check_card(b"A", &bare_header());
-    check_card(b"B", &listed(6, 4));
-    check_card(b"C", &listed(7, 4));
-    check_card(b"D", &listed(6, 5));
-    check_card(b"E", &listed(6, 3));
-    check_card(b"F", &seven_bytes());
+fn check_cards(rt: &impl Print) {
+    check_card(rt, "A", &bare_header());
+    check_card(rt, "B", &listed(6, 4));
+    check_card(rt, "C", &listed(7, 4));
+    check_card(rt, "D", &listed(6, 5));
+    check_card(rt, "E", &listed(6, 3));
+    check_card(rt, "F", &seven_bytes());
 }
 
 // w, the whole part of Q × M / D.
@@ -212,54 +210,63 @@ fn within(q: u16, d: u32, m: u32) -> u64
     (q as u64) * (m as u64) / (d as u64)
 }
 
-fn print_factors(tasks: &[u8], n: u8) {
-    let mut i = 0;
-    while i < n {
-        print_number(sheet::factor(tasks, i) as u64);
-        i += 1;
+fn print_factors(rt: &impl Print, tasks: &[u8], n: u8) {
+    for i in 0..n {
+        print_number(rt, sheet::factor(tasks, i) as u64);
     }
 }
 
-fn print_within(tasks: &[u8], n: u8, q: u16, d: u32) {
-    let mut i = 0;
-    while i < n {
-        print_number(within(q, d, sheet::factor(tasks, i)));
-        i += 1;
+fn print_within(rt: &impl Print, tasks: &[u8], n: u8, q: u16, d: u32) {
+    for i in 0..n {
+        print_number(rt, within(q, d, sheet::factor(tasks, i)));
     }
 }
 
 // Q and D of core k.
-fn print_figures(cores: &[u8], k: u8) {
-    print(b" pivot");
-    print_number(sheet::pivot(cores, k) as u64);
-    print(b" divisor");
-    print_number(sheet::divisor(cores, k) as u64);
+fn print_figures(rt: &impl Print, cores: &[u8], k: u8) {
+    print(rt, " pivot");
+    print_number(rt, sheet::pivot(cores, k) as u64);
+    print(rt, " divisor");
+    print_number(rt, sheet::divisor(cores, k) as u64);
 }
 
 // The figures of core 0 of a sheet, and the factors and w of its n tasks.
-fn print_rates(sheet: &[u8], n: u8)
+fn print_rates(rt: &impl Print, sheet: &[u8], n: u8)
     requires { 8 + 10 * n ≤ length sheet.now }
 {
     let at = 8 + 10 * (n as usize);
     let tasks = &sheet[8..];
     let cores = &sheet[at..];
-    print_figures(cores, 0);
-    print(b" factors");
-    print_factors(tasks, n);
-    print(b" within");
-    print_within(tasks, n, sheet::pivot(cores, 0), sheet::divisor(cores, 0));
+    print_figures(rt, cores, 0);
+    print(rt, " factors");
+    print_factors(rt, tasks, n);
+    print(rt, " within");
+    print_within(
+        rt,
+        tasks,
+        n,
+        sheet::pivot(cores, 0),
+        sheet::divisor(cores, 0),
+    );
 }
 
 // Cards G to I and R to T: what the planner makes. The length of the sheet is returned, 0 where it is refused.
-fn plan_card(name: &[u8], jobs: &[u8], limit: u64, start: u64, out: &mut [u8]) -> usize
+fn plan_card(
+    rt: &impl Print,
+    name: &str,
+    jobs: &[u8],
+    limit: u64,
+    start: u64,
+    out: &mut [u8],
+) -> usize
     ensures { IsPrefixLen result out.new }
 {
-    print(name);
+    print(rt, name);
     let planned = planner::plan(jobs, limit, start, out);
     match planned {
         Planned::Refused { word, place } => {
-            print_refused(word, place);
-            print(b"\n");
+            print_refused(rt, word, place);
+            print(rt, "\n");
             0
         }
         Planned::Written {
@@ -267,75 +274,73 @@ fn plan_card(name: &[u8], jobs: &[u8], limit: u64, start: u64, out: &mut [u8]) -
             cores,
             length: _,
         } => {
-            print_rates(out, tasks);
-            print(b"\n");
+            print_rates(rt, out, tasks);
+            print(rt, "\n");
             8 + 10 * (tasks as usize) + 8 * (cores as usize)
         }
     }
 }
 
 // Prints a call's answer, nothing where it is only accepted, and goes on with the state that the call handed back.
-fn after(step: Step) -> Core {
+fn after(rt: &impl Print, step: Step) -> Core {
     let answer = step.answer;
     match answer {
         Answer::Accepted => {}
-        Answer::Served(task) => print_number(task as u64),
-        Answer::Idle => print(b" idle"),
-        Answer::Refused { word, place } => print_refused(word, place),
+        Answer::Served(task) => print_number(rt, task as u64),
+        Answer::Idle => print(rt, " idle"),
+        Answer::Refused { word, place } => print_refused(rt, word, place),
     }
     step.core
 }
 
-fn ticked(core: Core, ticks: u8) -> Core {
+fn ticked(rt: &impl Print, core: Core, ticks: u8) -> Core {
     let mut state = core;
-    let mut i = 0;
-    while i < ticks {
-        let next = after(state.tick());
+    for _ in 0..ticks {
+        let next = after(rt, state.tick());
         state = next;
-        i += 1;
     }
     state
 }
 
 // Cards J, K and L begin so: a start, and a release of task 0 and of task 1.
-fn both_released(name: &[u8], start: Step) -> Core {
-    print(name);
-    let core = after(start);
-    let core = after(core.release(0));
-    after(core.release(1))
+fn both_released(rt: &impl Print, name: &str, start: Step) -> Core {
+    print(rt, name);
+    let core = after(rt, start);
+    let core = after(rt, core.release(0));
+    after(rt, core.release(1))
 }
 
-fn card_j(sheet: &[u8]) {
-    let core = both_released(b"J", dispatcher::start_sheet(sheet, 0));
-    let core = ticked(core, 5);
-    let core = after(core.release(0));
-    let core = ticked(core, 4);
-    after(core.finish(1));
-    print(b"\n");
+fn card_j(rt: &impl Print, sheet: &[u8]) {
+    let core = both_released(rt, "J", dispatcher::start_sheet(sheet, 0));
+    let core = ticked(rt, core, 5);
+    let core = after(rt, core.release(0));
+    let core = ticked(rt, core, 4);
+    after(rt, core.finish(1));
+    print(rt, "\n");
 }
 
-fn card_k(sheet: &[u8]) {
-    let core = both_released(b"K", dispatcher::start_sheet(sheet, 0));
-    let core = ticked(core, 4);
-    after(core.release(0));
-    print(b"\n");
+fn card_k(rt: &impl Print, sheet: &[u8]) {
+    let core = both_released(rt, "K", dispatcher::start_sheet(sheet, 0));
+    let core = ticked(rt, core, 4);
+    after(rt, core.release(0));
+    print(rt, "\n");
 }
 
-fn card_l(jobs: &[u8]) {
-    let core = both_released(b"L", dispatcher::start_list(jobs));
-    let core = ticked(core, 5);
-    let core = after(core.release(0));
-    let core = ticked(core, 2);
-    after(core.release(1));
-    print(b"\n");
+fn card_l(rt: &impl Print, jobs: &[u8]) {
+    let core = both_released(rt, "L", dispatcher::start_list(jobs));
+    let core = ticked(rt, core, 5);
+    let core = after(rt, core.release(0));
+    let core = ticked(rt, core, 2);
+    after(rt, core.release(1));
+    print(rt, "\n");
 }
 
 // Card I, and cards J and K on its sheet.
-fn cards_i_to_k() {
+fn cards_i_to_k(rt: &impl Print) {
     let mut out = [0u8; 712];
-    let n = plan_card(b"I", &jobs_i(), 1, 0, &mut out);
-    card_j(&out[..n]);
-    card_k(&out[..n]);
+    let n = plan_card(rt, "I", &jobs_i(), 1, 0, &mut out);
+    card_j(rt, &out[..n]);
+    card_k(rt, &out[..n]);
 }
 
 // The period of a task; 0 past the end.
@@ -348,96 +353,87 @@ fn period_at(periods: &[u16], task: u8) -> u16 {
 }
 
 // Card M: three periods in ring order.
-fn card_m() {
+fn card_m(rt: &impl Print) {
     let periods = [7u16, 16, 21];
     let ring = order::sorted(By::Ring, &periods, 3);
     let tasks = ring.tasks;
-    print(b"M");
-    print_number(period_at(&periods, tasks[0]) as u64);
-    print_number(period_at(&periods, tasks[1]) as u64);
-    print_number(period_at(&periods, tasks[2]) as u64);
-    print(b"\n");
+    print(rt, "M");
+    print_number(rt, period_at(&periods, tasks[0]) as u64);
+    print_number(rt, period_at(&periods, tasks[1]) as u64);
+    print_number(rt, period_at(&periods, tasks[2]) as u64);
+    print(rt, "\n");
 }
 
-fn print_cores(tasks: &[u8], n: u8) {
-    let mut i = 0;
-    while i < n {
-        print_number(sheet::core(tasks, i) as u64);
-        i += 1;
+fn print_cores(rt: &impl Print, tasks: &[u8], n: u8) {
+    for i in 0..n {
+        print_number(rt, sheet::core(tasks, i) as u64);
     }
 }
 
-fn print_all_figures(cores: &[u8], c: u8) {
-    let mut k = 0;
-    while k < c {
-        print_figures(cores, k);
-        k += 1;
+fn print_all_figures(rt: &impl Print, cores: &[u8], c: u8) {
+    for k in 0..c {
+        print_figures(rt, cores, k);
     }
 }
 
 // The core and the factor of each of n tasks of a sheet, and the figures of its c cores.
-fn print_sheet(sheet: &[u8], n: u8, c: u8)
+fn print_sheet(rt: &impl Print, sheet: &[u8], n: u8, c: u8)
     requires { 8 + 10 * n ≤ length sheet.now }
 {
     let at = 8 + 10 * (n as usize);
     let tasks = &sheet[8..];
     let cores = &sheet[at..];
-    print(b" cores");
-    print_cores(tasks, n);
-    print(b" factors");
-    print_factors(tasks, n);
-    print_all_figures(cores, c);
+    print(rt, " cores");
+    print_cores(rt, tasks, n);
+    print(rt, " factors");
+    print_factors(rt, tasks, n);
+    print_all_figures(rt, cores, c);
 }
 
 // Card N: what the planner makes with limit 2 and start 1.
-fn card_n(jobs: &[u8]) {
+fn card_n(rt: &impl Print, jobs: &[u8]) {
     let mut out = [0u8; 712];
-    print(b"N");
+    print(rt, "N");
     let planned = planner::plan(jobs, 2, 1, &mut out);
     match planned {
-        Planned::Refused { word, place } => print_refused(word, place),
+        Planned::Refused { word, place } => print_refused(rt, word, place),
         Planned::Written {
             tasks,
             cores,
             length: _,
-        } => print_sheet(&out, tasks, cores),
+        } => print_sheet(rt, &out, tasks, cores),
     }
-    print(b"\n");
+    print(rt, "\n");
 }
 
 // Cards R, from each start, S and T.
-fn cards_r_to_t() {
+fn cards_r_to_t(rt: &impl Print) {
     let mut out = [0u8; 712];
-    plan_card(b"R", &jobs_r(), 1, 0, &mut out);
-    plan_card(b"R", &jobs_r(), 1, 1, &mut out);
-    plan_card(b"R", &jobs_r(), 1, 2, &mut out);
-    plan_card(b"S", &jobs_s(), 1, 0, &mut out);
-    plan_card(b"T", &jobs_t(), 3, 5, &mut out);
+    plan_card(rt, "R", &jobs_r(), 1, 0, &mut out);
+    plan_card(rt, "R", &jobs_r(), 1, 1, &mut out);
+    plan_card(rt, "R", &jobs_r(), 1, 2, &mut out);
+    plan_card(rt, "S", &jobs_s(), 1, 0, &mut out);
+    plan_card(rt, "T", &jobs_t(), 3, 5, &mut out);
 }
 
-fn print_margin(jobs: &[u8], task: u64) {
+fn print_margin(rt: &impl Print, jobs: &[u8], task: u64) {
     let slack = margin::margin(jobs, task);
     match slack {
         Slack::Ticks(m) => {
-            if m < 0 {
-                print(b" -");
-            } else {
-                print(b" ");
-            }
-            io::print_decimal(STDOUT_FILENO, margin::magnitude(m));
+            let _ = print!(rt; " {m}");
         }
-        Slack::Refused { word, place } => print_refused(word, place),
+        Slack::Refused { word, place } => print_refused(rt, word, place),
     }
 }
 
 // Cards V and W: the margins of three tasks, and what a fourth number answers.
-fn margin_card(name: &[u8], jobs: &[u8]) {
-    print(name);
-    print_margin(jobs, 0);
-    print_margin(jobs, 1);
-    print_margin(jobs, 2);
-    print_margin(jobs, 3);
-    print(b"\n");
+fn margin_card(rt: &impl Print, name: &str, jobs: &[u8]) {
+    print(rt, name);
+    print_margin(rt, jobs, 0);
+    print_margin(rt, jobs, 1);
+    print_margin(rt, jobs, 2);
+    print_margin(rt, jobs, 3);
+    print(rt, "\n");
 }
 
 // Two slices have the same bytes.
@@ -458,116 +454,116 @@ fn same(a: &[u8], b: &[u8]) -> bool
 }
 
 // What the mover makes of a sheet: its length, and whether it is the other sheet.
-fn print_moved(sheet: &[u8], other: &[u8]) {
+fn print_moved(rt: &impl Print, sheet: &[u8], other: &[u8]) {
     let mut out = [0u8; 712];
     let moved = mover::move_sheet(sheet, &mut out);
     match moved {
-        Moved::Refused { word, place } => print_refused(word, place),
+        Moved::Refused { word, place } => print_refused(rt, word, place),
         Moved::Written(length) => {
             let end = length as usize;
-            print(b" moved");
-            print_number(end as u64);
+            print(rt, " moved");
+            print_number(rt, end as u64);
             if same(&out[..end], other) {
-                print(b" same");
+                print(rt, " same");
             } else {
-                print(b" different");
+                print(rt, " different");
             }
         }
     }
 }
 
 // Card X: the checker, the mover both ways, and core 0 with its tasks released, the lowest by priority first.
-fn card_x() {
+fn card_x(rt: &impl Print) {
     let sheet = grouped(1, 4, 0, 2);
     let other = ungrouped();
-    check_card(b"X", &sheet);
-    print(b"X");
-    print_moved(&sheet, &other);
-    print_moved(&other, &sheet);
-    print(b"\nX");
-    let core = after(dispatcher::start_sheet(&sheet, 0));
-    let core = after(core.release(4));
-    let core = after(core.release(1));
-    let core = after(core.release(3));
-    ticked(core, 5);
-    print(b"\n");
+    check_card(rt, "X", &sheet);
+    print(rt, "X");
+    print_moved(rt, &sheet, &other);
+    print_moved(rt, &other, &sheet);
+    print(rt, "\nX");
+    let core = after(rt, dispatcher::start_sheet(&sheet, 0));
+    let core = after(rt, core.release(4));
+    let core = after(rt, core.release(1));
+    let core = after(rt, core.release(3));
+    ticked(rt, core, 5);
+    print(rt, "\n");
 }
 
 // A start of card AB, task 1 with its first tick, and a release of task 0 inside its stroke.
-fn inside_stroke(sheet: &[u8]) -> Core {
-    print(b"AB");
-    let core = after(dispatcher::start_sheet(sheet, 0));
-    let core = after(core.release(1));
-    let core = ticked(core, 1);
-    after(core.release(0))
+fn inside_stroke(rt: &impl Print, sheet: &[u8]) -> Core {
+    print(rt, "AB");
+    let core = after(rt, dispatcher::start_sheet(sheet, 0));
+    let core = after(rt, core.release(1));
+    let core = ticked(rt, core, 1);
+    after(rt, core.release(0))
 }
 
 // The runs of card AB: a stroke that delays task 0, a finish that ends it, and one that leaves it; then the mover.
-fn runs_ab(sheet: &[u8]) {
-    let core = ticked(inside_stroke(sheet), 2);
-    let core = after(core.release(0));
-    ticked(core, 3);
-    print(b"\n");
-    let core = inside_stroke(sheet);
-    ticked(after(core.finish(1)), 2);
-    print(b"\n");
-    let core = inside_stroke(sheet);
-    ticked(after(core.finish(0)), 3);
-    print(b"\nAB");
-    print_moved(sheet, sheet);
-    print(b"\n");
+fn runs_ab(rt: &impl Print, sheet: &[u8]) {
+    let core = ticked(rt, inside_stroke(rt, sheet), 2);
+    let core = after(rt, core.release(0));
+    ticked(rt, core, 3);
+    print(rt, "\n");
+    let core = inside_stroke(rt, sheet);
+    ticked(rt, after(rt, core.finish(1)), 2);
+    print(rt, "\n");
+    let core = inside_stroke(rt, sheet);
+    ticked(rt, after(rt, core.finish(0)), 3);
+    print(rt, "\nAB");
+    print_moved(rt, sheet, sheet);
+    print(rt, "\n");
 }
 
-fn strokes_cards() {
-    check_card(b"AA", &stroked(1, 1));
-    check_card(b"AA", &stroked(1, 3));
-    check_card(b"AB", &stroked(1, 2));
-    runs_ab(&stroked(1, 2));
-    check_card(b"AC", &stroked(1, 0));
-    check_card(b"AC", &stroked(1, 4));
-    check_card(b"AC", &stroked(2, 4));
-    check_card(b"AE", &stroked_three(3, 2));
-    check_card(b"AE", &stroked_three(2, 3));
-    check_card(b"AE", &stroked_three(4, 2));
-    check_card(b"AE", &stroked_three(2, 4));
+fn strokes_cards(rt: &impl Print) {
+    check_card(rt, "AA", &stroked(1, 1));
+    check_card(rt, "AA", &stroked(1, 3));
+    check_card(rt, "AB", &stroked(1, 2));
+    runs_ab(rt, &stroked(1, 2));
+    check_card(rt, "AC", &stroked(1, 0));
+    check_card(rt, "AC", &stroked(1, 4));
+    check_card(rt, "AC", &stroked(2, 4));
+    check_card(rt, "AE", &stroked_three(3, 2));
+    check_card(rt, "AE", &stroked_three(2, 3));
+    check_card(rt, "AE", &stroked_three(4, 2));
+    check_card(rt, "AE", &stroked_three(2, 4));
 }
 
 // The listing of a sheet.
-fn print_listing(sheet: &[u8]) {
+fn print_listing(rt: &impl Print, sheet: &[u8]) {
     let mut text = [0u8; 8192];
     let answer = listing::list_sheet(sheet, &mut text);
     match answer {
         Listed::Written(length) => {
             let end = length as usize;
-            print(&text[..end]);
+            let _ = rt.write_all(&text[..end]);
         }
         Listed::Tight => {}
     }
 }
 
-fn main() {
+fn main(rt: HostRuntime) {
     let mut out = [0u8; 712];
-    check_cards();
-    plan_card(b"G", &jobs_g(), 1, 0, &mut out);
-    plan_card(b"H", &jobs_h(), 1, 0, &mut out);
-    cards_i_to_k();
-    card_l(&jobs_l());
-    card_m();
-    card_n(&jobs_n());
-    check_card(b"O", &unchained());
-    check_card(b"P", &nearly_full());
-    check_card(b"Q", &overfull());
-    cards_r_to_t();
-    margin_card(b"V", &jobs_v());
-    margin_card(b"W", &jobs_w());
-    card_x();
-    check_card(b"Y", &grouped(1, 4, 2, 2));
-    check_card(b"Y", &grouped(1, 4, 0, 3));
-    check_card(b"Y", &grouped(4, 1, 0, 2));
-    strokes_cards();
-    print_listing(&listed(6, 4));
-    print_listing(&listed(7, 4));
-    print_listing(&nearly_full());
-    print_listing(&grouped(1, 4, 0, 2));
-    print_listing(&stroked(1, 2));
+    check_cards(&rt);
+    plan_card(&rt, "G", &jobs_g(), 1, 0, &mut out);
+    plan_card(&rt, "H", &jobs_h(), 1, 0, &mut out);
+    cards_i_to_k(&rt);
+    card_l(&rt, &jobs_l());
+    card_m(&rt);
+    card_n(&rt, &jobs_n());
+    check_card(&rt, "O", &unchained());
+    check_card(&rt, "P", &nearly_full());
+    check_card(&rt, "Q", &overfull());
+    cards_r_to_t(&rt);
+    margin_card(&rt, "V", &jobs_v());
+    margin_card(&rt, "W", &jobs_w());
+    card_x(&rt);
+    check_card(&rt, "Y", &grouped(1, 4, 2, 2));
+    check_card(&rt, "Y", &grouped(1, 4, 0, 3));
+    check_card(&rt, "Y", &grouped(4, 1, 0, 2));
+    strokes_cards(&rt);
+    print_listing(&rt, &listed(6, 4));
+    print_listing(&rt, &listed(7, 4));
+    print_listing(&rt, &nearly_full());
+    print_listing(&rt, &grouped(1, 4, 0, 2));
+    print_listing(&rt, &stroked(1, 2));
 }

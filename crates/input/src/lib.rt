@@ -1,8 +1,14 @@
-// Standard input as bytes, or that it could not be read.
+// Standard input as bytes, or that it could not be read; whether an argument is there; what is said of a read or a write that failed.
 #![tactic(auto)]
 
-ghost use Rattle.std.specs.Prelude.{◌≡◌, length};
-ghost use Rattle.input.specs.Inputs.{Inside};
+ghost use Rattle.std.specs.Prelude.{◌≡◌, ◌<◌, ◌≤◌, length, take, IfOk};
+ghost use Rattle.std.specs.Io.KnownBytes.{Consumes, IsAtEnd};
+ghost use Rattle.input.specs.Inputs.{IsPrefixLen, Inside};
+
+use std::env::{Env, FillError};
+use std::fmt::Write;
+use std::io::{Input as Source, Read};
+use std::{fmt, io};
 
 #[derive(Clone, Copy)]
 pub enum Input {
@@ -10,22 +16,85 @@ pub enum Input {
     Failed,
 }
 
+// Room for what an error displays: at most 256 bytes of words and 23 with its number.
+const ROOM: usize = 300;
+
+// What an error displays.
+#[derive(Drop)]
+struct Words {
+    bytes: [u8; ROOM],
+    len: usize,
+    ghost inside: { len ≤ 300 },
+}
+
+impl fmt::Write for Words {
+    fn write_str(&mut self, s: &str) -> fmt::Result {
+        for b in s.as_bytes() {
+            let at = self.len;
+            if ROOM <= at {
+                return Err(fmt::Error);
+            }
+            self.bytes[at] = *b;
+            self.len = at + 1;
+        }
+        Ok(())
+    }
+}
+
 // Reads until the buffer is full or the input ends, and answers how many bytes stand at the buffer's front. An error at any read, also
-// after some bytes, is a failure, and errno is then that of this read.
-pub fn read_input(buf: &mut [u8]) -> Input
-    ensures { Inside result buf.new × (length buf.new ≡ length buf.old) }
+// after some bytes, is the answer.
+pub fn fill<R: Read>(reader: &mut R, buf: &mut [u8]) -> io::Result<usize>
+    ensures front { IfOk result (λ n. IsPrefixLen n buf.new) }
+    ensures same_length { length buf.new ≡ length buf.old }
+    ensures bytes { IfOk result (λ n. Consumes (R.remaining reader.old) (R.remaining reader.new) (take n buf.new)) }
+    ensures end { IfOk result (λ n. n < length buf.new → IsAtEnd (R.remaining reader.new)) }
 {
     let mut done = 0;
     while done < buf.len() {
-        let got = libc::read(libc::STDIN_FILENO, &mut buf[done..]);
-        if got < 0 {
-            return Input::Failed;
-        }
-        let more = io::count(got, &buf[done..]);
+        let more = reader.read(&mut buf[done..])?;
         if more == 0 {
-            return Input::Bytes(done);
+            return Ok(done);
         }
         done += more;
     }
-    Input::Bytes(done)
+    Ok(done)
+}
+
+// Says on standard error that a stream failed and why. Of what an error of the system displays these are the words without the number.
+pub fn say_failed(rt: &impl Eprint, stream: &str, error: io::Error) {
+    let mut words = Words {
+        bytes: [0; ROOM],
+        len: 0,
+    };
+    let _ = write!(words, "{error}");
+    let n = words.len;
+    let whole = str::from_utf8(&words.bytes[..n]).unwrap_or("");
+    let text = match whole.split_once(" (os error ") {
+        Some((front, _)) => front,
+        None => whole,
+    };
+    let _ = eprintln!(rt; "{stream}: {text}");
+}
+
+// Reads standard input until the buffer is full or the input ends, and answers how many bytes stand at the buffer's front. An error at any
+// read, also after some bytes, is a failure, and why has been said.
+pub fn read_input(rt: &(impl Source + Eprint), buf: &mut [u8]) -> Input
+    ensures { Inside result buf.new × (length buf.new ≡ length buf.old) }
+{
+    match fill(&mut rt.reader(), buf) {
+        Ok(n) => Input::Bytes(n),
+        Err(error) => {
+            say_failed(rt, "standard input", error);
+            Input::Failed
+        }
+    }
+}
+
+// Whether there is an argument i; the program's name is argument 0.
+pub fn has_argument(rt: &impl Env, i: usize) -> bool {
+    let mut start = [0u8; 1];
+    match rt.arg(i, &mut start) {
+        Ok(_) | Err(FillError::TooLong) => true,
+        Err(FillError::NotPresent) => false,
+    }
 }

@@ -1,6 +1,6 @@
 -- What a caller may take as read, and the line that a refusal names.
 use Rattle.std.specs.Prelude.{ℕ, ◌≡◌, Bool, cond, ◌||◌, List, take, eqb}
-use Rattle.io.specs.Counts.{IsPrefixLen}
+use Rattle.input.specs.Inputs.{IsPrefixLen}
 use Rattle.jobtext.specs.declared.Read.TheVariants as jobtext
 use Rattle.jobtext.specs.Text.{finish, room_in, read_of, holding, line_of}
 use Rattle.jobinput.specs.declared.Given.{Given}

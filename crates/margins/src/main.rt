@@ -3,69 +3,57 @@
 #![tactic(auto)]
 
 use jobinput::Given;
-use libc::STDOUT_FILENO;
 use margin::Slack;
+use std::io;
+use std::io::Input as Source;
 
-fn print(text: &[u8]) -> bool {
-    io::write_all(STDOUT_FILENO, text)
-}
-
-fn print_number(n: u64) -> bool {
-    io::print_decimal(STDOUT_FILENO, n)
-}
-
-fn print_signed(m: i32) -> bool {
-    if m < 0 && !print(b"-") {
-        return false;
-    }
-    print_number(margin::magnitude(m))
-}
-
-// The line of one task, or false at the first write that fails.
-fn print_line(task: u64, m: i32) -> bool {
-    print(b"task ") && print_number(task) && print(b" margin ") && print_signed(m) && print(b"\n")
+// The line of one task.
+fn print_line(rt: &impl Print, task: u64, m: i32) -> io::Result<()> {
+    println!(rt; "task {task} margin {m}")
 }
 
 // Prints the line of one task of a text's list, and answers whether this went well. If not, it says why.
-fn print_margin(text: &[u8], list: &[u8], task: u64) -> bool {
+fn print_margin(rt: &(impl Print + Eprint), text: &[u8], list: &[u8], task: u64) -> bool {
     let slack = margin::margin(list, task);
     match slack {
         Slack::Refused { word, place } => {
-            jobinput::say_refused(word, place, text, false);
+            jobinput::say_refused(rt, word, place, text, false);
             false
         }
-        Slack::Ticks(m) => {
-            if print_line(task, m) {
-                return true;
+        Slack::Ticks(m) => match print_line(rt, task, m) {
+            Ok(()) => true,
+            Err(error) => {
+                input::say_failed(rt, "standard output", error);
+                false
             }
-            os::fail(b"standard output");
-            false
-        }
+        },
     }
 }
 
 // Every call of `margin` looks at the whole list first, so a list that is refused is refused at its first task.
-fn print_margins(text: &[u8], list: &[u8]) {
+fn print_margins(rt: &(impl Print + Eprint), text: &[u8], list: &[u8]) {
     let n = (list.len() / 4) as u64;
-    let mut task = 0;
-    while task < n {
-        if !print_margin(text, list, task) {
+    for task in 0..n {
+        if !print_margin(rt, text, list, task) {
             return;
         }
-        task += 1;
     }
 }
 
-fn main() {
-    if 1 < os::arg_count() {
-        io::write_all(libc::STDERR_FILENO, b"usage: margins < JOBS\n");
-        return;
-    }
-    let mut text = io::large_buffer();
+fn print_input(rt: &(impl Source + Print + Eprint)) {
+    let mut text = [0u8; 65536];
     let mut jobs = [0u8; 256];
-    let given = jobinput::read_list(&mut text, &mut jobs);
+    let given = jobinput::read_list(rt, &mut text, &mut jobs);
     match given {
         Given::Nothing => {}
-        Given::Jobs { text: t, jobs: n } => print_margins(&text[..t], &jobs[..n]),
+        Given::Jobs { text: t, jobs: n } => print_margins(rt, &text[..t], &jobs[..n]),
     }
+}
+
+fn main(rt: HostRuntime) {
+    if input::has_argument(&rt, 1) {
+        let _ = eprintln!(rt; "usage: margins < JOBS");
+        return;
+    }
+    print_input(&rt);
 }

@@ -5,44 +5,42 @@
 use input::Input;
 use mover::Moved;
 use sheet::Refusal;
+use std::io::Input as Source;
 
 // The mover's refusal as one line.
-fn say_refused(word: Refusal, place: u16) {
-    io::write_all(libc::STDERR_FILENO, b"refused ");
-    io::print_decimal(libc::STDERR_FILENO, sheet::number(word) as u64);
-    io::write_all(libc::STDERR_FILENO, b" place ");
-    io::print_decimal(libc::STDERR_FILENO, place as u64);
-    io::write_all(libc::STDERR_FILENO, b"\n");
+fn say_refused(rt: &impl Eprint, word: Refusal, place: u16) {
+    let number = sheet::number(word);
+    let _ = eprintln!(rt; "refused {number} place {place}");
 }
 
-fn write_moved(sheet: &[u8]) {
+fn write_moved(rt: &(impl Print + Eprint), sheet: &[u8]) {
     let mut out = [0u8; 712];
     let moved = mover::move_sheet(sheet, &mut out);
     match moved {
-        Moved::Refused { word, place } => say_refused(word, place),
+        Moved::Refused { word, place } => say_refused(rt, word, place),
         Moved::Written(length) => {
             let end = length as usize;
-            if !io::write_all(libc::STDOUT_FILENO, &out[..end]) {
-                os::fail(b"standard output");
+            if let Err(error) = rt.write_all(&out[..end]) {
+                input::say_failed(rt, "standard output", error);
             }
         }
     }
 }
 
 // Reads one byte more than a sheet can have. Of a longer input the rest is left unread, which changes nothing (proved as `moving_cut`).
-fn move_input() {
+fn move_input(rt: &(impl Source + Print + Eprint)) {
     let mut sheet = [0u8; 713];
-    let got = input::read_input(&mut sheet);
+    let got = input::read_input(rt, &mut sheet);
     match got {
-        Input::Failed => os::fail(b"standard input"),
-        Input::Bytes(n) => write_moved(&sheet[..n]),
+        Input::Failed => {}
+        Input::Bytes(n) => write_moved(rt, &sheet[..n]),
     }
 }
 
-fn main() {
-    if 1 < os::arg_count() {
-        io::write_all(libc::STDERR_FILENO, b"usage: move_sheet < SHEET > MOVED\n");
+fn main(rt: HostRuntime) {
+    if input::has_argument(&rt, 1) {
+        let _ = eprintln!(rt; "usage: move_sheet < SHEET > MOVED");
         return;
     }
-    move_input();
+    move_input(&rt);
 }

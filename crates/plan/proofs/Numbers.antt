@@ -2,25 +2,16 @@
 -- Assumes nothing.
 use Prim.Native.Nat.{ℕ, ◌+◌, ◌≤◌, ◌<◌}
 use mathlib.Core.Path.{◌≡◌, refl, sym, ◌∙◌}
-use mathlib.Core.Bool.{Bool, true, false, not, ◌&&◌}
+use mathlib.Core.Bool.{Bool, true, false, not}
 use mathlib.Core.List.{List, [], ◌∷◌}
 use native.Mathlib.Omega.{arith}
 use native.Mathlib.Numerals.{add-one}
-use borrow.Author.Tests.{leb-true, not-true, not-false}
-use lib.Dec.{leb}
+use borrow.Author.Tests.{not-true, not-false}
 use lib.ListN.{length, drop, get_or, drop_of_length-le}
 use lib.Seq.{drop-cons}
 use Rattle.jobtext.specs.Text.{is_digit}
 use Rattle.plan.specs.declared.Number.TheVariants.{Value, Wrong}
 use Rattle.plan.specs.Number.{longer, number_from, number_in}
-
--- a digit is '0' or above
-pub digit_low : (b : ℕ) (d : Bool) → d ≡ is_digit b → not d ≡ false → 48 ≤ b
-digit_low b d e t = by (leb 48 b) refl (sym e ∙ not-false d t)
-  where
-    by : (x : Bool) → leb 48 b ≡ x → (x && leb b 57) ≡ true → 48 ≤ b
-    by true h q = leb-true 48 b h
-    by false h q = let never : ◌≡◌ {A = ℕ} 0 1 = cc in absurd (omega arith)
 
 -- an empty text is no number
 pub number_none : (text : List ℕ) → length text ≡ 0 → Wrong ≡ number_in text

@@ -7,8 +7,9 @@ ghost use Rattle.jobtext.specs.Text.{is_digit};
 ghost use Rattle.plan.specs.Number.{longer, number_in};
 
 use jobinput::Given;
-use libc::{STDERR_FILENO, STDOUT_FILENO};
 use planner::Planned;
+use std::env::{Env, FillError};
+use std::io::Input as Source;
 
 // What an argument is.
 #[derive(Clone, Copy)]
@@ -24,6 +25,7 @@ fn is_digit(b: u8) -> bool
 }
 
 // A number with one digit more.
+#[tactic(auto, unfolding(crate::specs::Number::longer))]
 fn extend(x: u64, b: u8) -> u64
     requires { (x ≤ 1000000) × (48 ≤ b) }
     ensures { (result ≡ longer x b) × (result ≤ 1000000) }
@@ -52,30 +54,27 @@ fn read_number(text: &[u8]) -> Number
     Number::Value(x)
 }
 
-// Argument i, or a number in its place where it is absent. One too long for the buffer is wrong, since it is handed over as empty.
-fn argument(i: usize, absent: u64) -> Number {
-    if os::arg_count() <= i {
-        return Number::Value(absent);
+// Argument i, or a number in its place where it is absent. One too long for the buffer is wrong.
+fn argument(rt: &impl Env, i: usize, absent: u64) -> Number {
+    let mut text = [0u8; 4096];
+    match rt.arg(i, &mut text) {
+        Ok(n) => read_number(&text[..n]),
+        Err(FillError::NotPresent) => Number::Value(absent),
+        Err(FillError::TooLong) => Number::Wrong,
     }
-    let mut text = io::buffer();
-    let n = os::arg(i, &mut text);
-    read_number(&text[..n])
 }
 
-fn say_usage() {
-    io::write_all(
-        STDERR_FILENO,
-        b"usage: plan [LIMIT [START]] < JOBS > SHEET\n",
-    );
+fn say_usage(rt: &impl Eprint) {
+    let _ = eprintln!(rt; "usage: plan [LIMIT [START]] < JOBS > SHEET");
 }
 
 // Plans the job list of a text and writes the sheet.
-fn plan_jobs(text: &[u8], jobs: &[u8], limit: u64, start: u64) {
+fn plan_jobs(rt: &(impl Print + Eprint), text: &[u8], jobs: &[u8], limit: u64, start: u64) {
     let mut sheet = [0u8; 712];
     let planned = planner::plan(jobs, limit, start, &mut sheet);
     match planned {
         Planned::Refused { word, place } => {
-            jobinput::say_refused(word, place, text, jobs.len() == 0);
+            jobinput::say_refused(rt, word, place, text, jobs.len() == 0);
         }
         Planned::Written {
             tasks: _,
@@ -83,37 +82,37 @@ fn plan_jobs(text: &[u8], jobs: &[u8], limit: u64, start: u64) {
             length,
         } => {
             let end = length as usize;
-            if !io::write_all(STDOUT_FILENO, &sheet[..end]) {
-                os::fail(b"standard output");
+            if let Err(error) = rt.write_all(&sheet[..end]) {
+                input::say_failed(rt, "standard output", error);
             }
         }
     }
 }
 
-fn plan_input(limit: u64, start: u64) {
-    let mut text = io::large_buffer();
+fn plan_input(rt: &(impl Source + Print + Eprint), limit: u64, start: u64) {
+    let mut text = [0u8; 65536];
     let mut jobs = [0u8; 256];
-    let given = jobinput::read_list(&mut text, &mut jobs);
+    let given = jobinput::read_list(rt, &mut text, &mut jobs);
     match given {
         Given::Nothing => {}
-        Given::Jobs { text: t, jobs: n } => plan_jobs(&text[..t], &jobs[..n], limit, start),
+        Given::Jobs { text: t, jobs: n } => plan_jobs(rt, &text[..t], &jobs[..n], limit, start),
     }
 }
 
-fn main() {
-    if 3 < os::arg_count() {
-        say_usage();
+fn main(rt: HostRuntime) {
+    if input::has_argument(&rt, 3) {
+        say_usage(&rt);
         return;
     }
-    let limit = argument(1, 8);
-    let start = argument(2, 0);
+    let limit = argument(&rt, 1, 8);
+    let start = argument(&rt, 2, 0);
     let Number::Value(cores) = limit else {
-        say_usage();
+        say_usage(&rt);
         return;
     };
     let Number::Value(from) = start else {
-        say_usage();
+        say_usage(&rt);
         return;
     };
-    plan_input(cores, from);
+    plan_input(&rt, cores, from);
 }

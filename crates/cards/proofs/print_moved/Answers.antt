@@ -1,0 +1,10 @@
+-- The moved sheet lies within its buffer.
+use Rattle.std.proofs.Common.{rules}
+use Rattle.mover.proofs.Inside.{moved_inside, moved_front}
+use Rattle.cards.proofs.print_moved.Goals as goal
+
+pub slice_bounds-out-end : goal.slice_bounds-out-end
+slice_bounds-out-end g c = search (moved_inside, rules)
+
+pub slice_bounds-same-end : goal.slice_bounds-same-end
+slice_bounds-same-end g c = search (moved_front, rules)
