@@ -21,13 +21,10 @@ ghost use Rattle.capi.specs.Answers.{layout, checked_of, planned_of, listed_of, 
 ghost use Rattle.capi.specs.Moved.{RunsAlike};
 ghost use Rattle.capi.specs.Planned.{RunsOnTime};
 
-use checker::Verdict;
-use listing::Listed;
-use margin::Slack;
-use mover::Moved;
+use checker::Counts;
 use planner::Planned;
-use row::RowAnswer;
-use state::{Answer, Core, Step};
+use sheet::Rejection;
+use state::{Core, Reply, Step};
 
 #[repr(C)]
 #[derive(Clone, Copy)]
@@ -124,14 +121,14 @@ pub extern "C" fn homvaits_check(sheet: &[u8]) -> Checked
 {
     let answer = checker::check(sheet);
     match answer {
-        Verdict::Accepted { tasks, cores } => Checked {
+        Ok(Counts { tasks, cores }) => Checked {
             refusal: 0,
             place: 0,
             tasks,
             cores,
         },
-        Verdict::Refused { word, place } => Checked {
-            refusal: sheet::number(word),
+        Err(Rejection { word, place }) => Checked {
+            refusal: u8::from(word),
             place,
             tasks: 0,
             cores: 0,
@@ -149,19 +146,21 @@ pub extern "C" fn homvaits_plan(jobs: &[u8], limit: u64, start: u64, out: &mut [
 {
     let answer = planner::plan(jobs, limit, start, out);
     match answer {
-        Planned::Written {
-            tasks,
-            cores,
-            length,
-        } => PlanAnswer {
+        Ok(
+            Planned {
+                tasks,
+                cores,
+                length,
+            },
+        ) => PlanAnswer {
             refusal: 0,
             place: 0,
             tasks,
             cores,
             length,
         },
-        Planned::Refused { word, place } => PlanAnswer {
-            refusal: sheet::number(word),
+        Err(Rejection { word, place }) => PlanAnswer {
+            refusal: u8::from(word),
             place,
             tasks: 0,
             cores: 0,
@@ -177,14 +176,14 @@ pub extern "C" fn homvaits_list(sheet: &[u8], out: &mut [u8]) -> ListAnswer
 {
     let answer = listing::list_sheet(sheet, out);
     match answer {
-        Listed::Written(length) => ListAnswer {
+        Ok(length) => ListAnswer {
             refusal: 0,
             place: 0,
             length,
         },
-        Listed::Tight => ListAnswer {
-            refusal: 16,
-            place: 0,
+        Err(Rejection { word, place }) => ListAnswer {
+            refusal: u8::from(word),
+            place,
             length: 0,
         },
     }
@@ -206,14 +205,14 @@ fn hand_back(r: Step) -> StepAnswer
     let core = r.core;
     let answer = r.answer;
     match answer {
-        Answer::Refused { word, place } => StepAnswer {
-            refusal: sheet::number(word),
+        Err(Rejection { word, place }) => StepAnswer {
+            refusal: u8::from(word),
             place,
             core,
         },
-        Answer::Accepted => passed(core),
-        Answer::Served(_) => passed(core),
-        Answer::Idle => passed(core),
+        Ok(Reply::Accepted) => passed(core),
+        Ok(Reply::Served(_)) => passed(core),
+        Ok(Reply::Idle) => passed(core),
     }
 }
 
@@ -255,7 +254,7 @@ pub extern "C" fn homvaits_tick(core: Core) -> Ticked
     let next = r.core;
     let answer = r.answer;
     match answer {
-        Answer::Served(task) => Ticked {
+        Ok(Reply::Served(task)) => Ticked {
             refusal: 0,
             free: 0,
             place: 0,
@@ -264,7 +263,7 @@ pub extern "C" fn homvaits_tick(core: Core) -> Ticked
             free2: 0,
             core: next,
         },
-        Answer::Idle => Ticked {
+        Ok(Reply::Idle) => Ticked {
             refusal: 0,
             free: 0,
             place: 0,
@@ -273,8 +272,8 @@ pub extern "C" fn homvaits_tick(core: Core) -> Ticked
             free2: 0,
             core: next,
         },
-        Answer::Refused { word, place } => Ticked {
-            refusal: sheet::number(word),
+        Err(Rejection { word, place }) => Ticked {
+            refusal: u8::from(word),
             free: 0,
             place,
             task: 0,
@@ -282,7 +281,7 @@ pub extern "C" fn homvaits_tick(core: Core) -> Ticked
             free2: 0,
             core: next,
         },
-        Answer::Accepted => Ticked {
+        Ok(Reply::Accepted) => Ticked {
             refusal: 0,
             free: 0,
             place: 0,
@@ -294,16 +293,16 @@ pub extern "C" fn homvaits_tick(core: Core) -> Ticked
     }
 }
 
-fn row_ticked(answer: RowAnswer) -> RowTicked
+fn row_ticked(answer: Result<(), Rejection<usize>>) -> RowTicked
     ensures { result ≡ row_ticked_of (outcome_of answer) }
 {
     match answer {
-        RowAnswer::Ticked => RowTicked {
+        Ok(()) => RowTicked {
             refusal: 0,
             place: 0,
         },
-        RowAnswer::Refused { word, place } => RowTicked {
-            refusal: sheet::number(word),
+        Err(Rejection { word, place }) => RowTicked {
+            refusal: u8::from(word),
             place: place as u64,
         },
     }
@@ -328,13 +327,13 @@ pub extern "C" fn homvaits_margin(jobs: &[u8], number: u64) -> Margined
 {
     let answer = margin::margin(jobs, number);
     match answer {
-        Slack::Ticks(margin) => Margined {
+        Ok(margin) => Margined {
             refusal: 0,
             place: 0,
             margin,
         },
-        Slack::Refused { word, place } => Margined {
-            refusal: sheet::number(word),
+        Err(Rejection { word, place }) => Margined {
+            refusal: u8::from(word),
             place,
             margin: 0,
         },
@@ -350,13 +349,13 @@ pub extern "C" fn homvaits_move(sheet: &[u8], out: &mut [u8]) -> MoveAnswer
 {
     let answer = mover::move_sheet(sheet, out);
     match answer {
-        Moved::Written(length) => MoveAnswer {
+        Ok(length) => MoveAnswer {
             refusal: 0,
             place: 0,
             length,
         },
-        Moved::Refused { word, place } => MoveAnswer {
-            refusal: sheet::number(word),
+        Err(Rejection { word, place }) => MoveAnswer {
+            refusal: u8::from(word),
             place,
             length: 0,
         },

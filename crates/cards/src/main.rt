@@ -8,14 +8,11 @@ ghost use Rattle.input.specs.Inputs.{IsPrefixLen};
 ghost use Rattle.fit.specs.Fits.{within as withinOf};
 ghost use Rattle.cards.specs.Cards.{header, listed as listedSheet, seven, jobs_g, jobs_h, jobs_i, jobs_l, jobs_n, jobs_r, jobs_s, jobs_t, jobs_v, jobs_w, unchained as unchainedSheet, nearly_full, overfull as overfullSheet, grouped as groupedSheet, ungrouped as ungroupedSheet, stroked as strokedSheet, stroked_three};
 
-use checker::Verdict;
+use checker::Counts;
 use fit::By;
-use listing::Listed;
-use margin::Slack;
-use mover::Moved;
 use planner::Planned;
-use sheet::Refusal;
-use state::{Answer, Core, Step};
+use sheet::Rejection;
+use state::{Core, Reply, Step};
 
 fn print(rt: &impl Print, text: &str) {
     let _ = rt.print(text);
@@ -26,10 +23,11 @@ fn print_number(rt: &impl Print, n: u64) {
     let _ = print!(rt; " {n}");
 }
 
-fn print_refused(rt: &impl Print, word: Refusal, place: u16) {
+// A space and a refusal, which its cards have without the word for its place.
+fn print_refused(rt: &impl Print, rejection: Rejection) {
     print(rt, " refused");
-    print_number(rt, sheet::number(word) as u64);
-    print_number(rt, place as u64);
+    print_number(rt, u64::from(u8::from(rejection.word)));
+    print_number(rt, u64::from(rejection.place));
 }
 
 // The inputs of the cards.
@@ -181,12 +179,12 @@ fn check_card(rt: &impl Print, name: &str, sheet: &[u8]) {
     print(rt, name);
     let verdict = checker::check(sheet);
     match verdict {
-        Verdict::Accepted { tasks, cores } => {
+        Ok(Counts { tasks, cores }) => {
             print(rt, " accepted");
             print_number(rt, tasks as u64);
             print_number(rt, cores as u64);
         }
-        Verdict::Refused { word, place } => print_refused(rt, word, place),
+        Err(rejection) => print_refused(rt, rejection),
     }
     print(rt, "\n");
 }
@@ -264,16 +262,12 @@ fn plan_card(
     print(rt, name);
     let planned = planner::plan(jobs, limit, start, out);
     match planned {
-        Planned::Refused { word, place } => {
-            print_refused(rt, word, place);
+        Err(rejection) => {
+            print_refused(rt, rejection);
             print(rt, "\n");
             0
         }
-        Planned::Written {
-            tasks,
-            cores,
-            length: _,
-        } => {
+        Ok(Planned { tasks, cores, .. }) => {
             print_rates(rt, out, tasks);
             print(rt, "\n");
             8 + 10 * (tasks as usize) + 8 * (cores as usize)
@@ -285,10 +279,10 @@ fn plan_card(
 fn after(rt: &impl Print, step: Step) -> Core {
     let answer = step.answer;
     match answer {
-        Answer::Accepted => {}
-        Answer::Served(task) => print_number(rt, task as u64),
-        Answer::Idle => print(rt, " idle"),
-        Answer::Refused { word, place } => print_refused(rt, word, place),
+        Ok(Reply::Accepted) => {}
+        Ok(Reply::Served(task)) => print_number(rt, task as u64),
+        Ok(Reply::Idle) => print(rt, " idle"),
+        Err(rejection) => print_refused(rt, rejection),
     }
     step.core
 }
@@ -356,11 +350,10 @@ fn period_at(periods: &[u16], task: u8) -> u16 {
 fn card_m(rt: &impl Print) {
     let periods = [7u16, 16, 21];
     let ring = order::sorted(By::Ring, &periods, 3);
-    let tasks = ring.tasks;
     print(rt, "M");
-    print_number(rt, period_at(&periods, tasks[0]) as u64);
-    print_number(rt, period_at(&periods, tasks[1]) as u64);
-    print_number(rt, period_at(&periods, tasks[2]) as u64);
+    for &i in ring.as_slice() {
+        print_number(rt, u64::from(period_at(&periods, i)));
+    }
     print(rt, "\n");
 }
 
@@ -396,12 +389,8 @@ fn card_n(rt: &impl Print, jobs: &[u8]) {
     print(rt, "N");
     let planned = planner::plan(jobs, 2, 1, &mut out);
     match planned {
-        Planned::Refused { word, place } => print_refused(rt, word, place),
-        Planned::Written {
-            tasks,
-            cores,
-            length: _,
-        } => print_sheet(rt, &out, tasks, cores),
+        Err(rejection) => print_refused(rt, rejection),
+        Ok(Planned { tasks, cores, .. }) => print_sheet(rt, &out, tasks, cores),
     }
     print(rt, "\n");
 }
@@ -419,10 +408,10 @@ fn cards_r_to_t(rt: &impl Print) {
 fn print_margin(rt: &impl Print, jobs: &[u8], task: u64) {
     let slack = margin::margin(jobs, task);
     match slack {
-        Slack::Ticks(m) => {
+        Ok(m) => {
             let _ = print!(rt; " {m}");
         }
-        Slack::Refused { word, place } => print_refused(rt, word, place),
+        Err(rejection) => print_refused(rt, rejection),
     }
 }
 
@@ -458,8 +447,8 @@ fn print_moved(rt: &impl Print, sheet: &[u8], other: &[u8]) {
     let mut out = [0u8; 712];
     let moved = mover::move_sheet(sheet, &mut out);
     match moved {
-        Moved::Refused { word, place } => print_refused(rt, word, place),
-        Moved::Written(length) => {
+        Err(rejection) => print_refused(rt, rejection),
+        Ok(length) => {
             let end = length as usize;
             print(rt, " moved");
             print_number(rt, end as u64);
@@ -533,11 +522,11 @@ fn print_listing(rt: &impl Print, sheet: &[u8]) {
     let mut text = [0u8; 8192];
     let answer = listing::list_sheet(sheet, &mut text);
     match answer {
-        Listed::Written(length) => {
+        Ok(length) => {
             let end = length as usize;
             let _ = rt.write_all(&text[..end]);
         }
-        Listed::Tight => {}
+        Err(_) => {}
     }
 }
 

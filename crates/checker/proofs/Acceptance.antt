@@ -4,7 +4,8 @@ use Prim.Native.Nat.{ℕ, ◌*◌, ◌<◌, zero-le}
 use mathlib.Core.Path.{◌≡◌, refl, sym, ◌∙◌}
 use mathlib.Core.Logic.{◌↔◌, ◌⊎◌, inl, inr}
 use mathlib.Core.Bool.{Bool, true, false, ◌||◌, true≢false}
-use mathlib.Core.Option.{Option, none, some, some-ne-none}
+use Rattle.std.specs.Prelude.{Option, None, Some}
+use Rattle.sheet.proofs.Options.{some-ne-none}
 use mathlib.Core.List.{List, [], ◌∷◌, ◌++◌}
 use native.Mathlib.Omega.{arith}
 use native.Mathlib.Nat.{zero-add}
@@ -33,42 +34,42 @@ use Rattle.checker.specs.Verdict.{accepted, outcome, verdict}
 use Rattle.checker.specs.Accepted.{LoadAtMostOne, Framed, SparesZero, TasksInRange, CoresInRange, CoresFit, Fitting, OrderKept, Acceptable}
 
 -- a table is clear exactly when each of its rows is
-row_clear : (k : ℕ) (o : Option ℕ) (rows : List Row) → o ≡ none → scan rows ≡ none → scan (k at o ∷ rows) ≡ none
-row_clear k o rows e h = sym (scan_skip k o rows none (sym e) (sym h))
+row_clear : (k : ℕ) (o : Option ℕ) (rows : List Row) → o ≡ None → scan rows ≡ None → scan (k at o ∷ rows) ≡ None
+row_clear k o rows e h = sym (scan_skip k o rows None (sym e) (sym h))
 
-end_clear : scan [] ≡ none
+end_clear : scan [] ≡ None
 end_clear = sym scan_none
 
-both_clear : (a b : List Row) → scan a ≡ none → scan b ≡ none → scan (a ++ b) ≡ none
-both_clear a b e h = sym (scan_second a b none (sym e) (sym h))
+both_clear : (a b : List Row) → scan a ≡ None → scan b ≡ None → scan (a ++ b) ≡ None
+both_clear a b e h = sym (scan_second a b None (sym e) (sym h))
 
-whole_none : (b : Bool) → b ≡ false → whole b ≡ none
+whole_none : (b : Bool) → b ≡ false → whole b ≡ None
 unfolding whole
 whole_none b e = rw e
 
-core_none : (o : Option ℕ) → o ≡ none → core o ≡ none
+core_none : (o : Option ℕ) → o ≡ None → core o ≡ None
 unfolding core
 core_none o e = rw e
 
-offset_none : (o : Option ℕ) → o ≡ none → offset o ≡ none
+offset_none : (o : Option ℕ) → o ≡ None → offset o ≡ None
 unfolding offset
 offset_none o e = rw e
 
-offset_clear : (o : Option ℕ) → offset o ≡ none → o ≡ none
+offset_clear : (o : Option ℕ) → offset o ≡ None → o ≡ None
 unfolding offset
-offset_clear none e = refl
-offset_clear (some a) e = absurd (some-ne-none _ e)
+offset_clear None e = refl
+offset_clear (Some a) e = absurd (some-ne-none _ e)
 
 -- a rule at tasks or cores is kept exactly when its test is false at each
 module _ (q : ℕ → Bool) (n : ℕ) where
-  pub kept : find q (numbers 0 n) ≡ none → (i : ℕ) → i < n → q i ≡ false
+  pub kept : find q (numbers 0 n) ≡ None → (i : ℕ) → i < n → q i ≡ false
   kept e i h = find_none q 0 n e i zero-le (rw zero-add h)
 
-  pub keeps : ((i : ℕ) → i < n → q i ≡ false) → find q (numbers 0 n) ≡ none
+  pub keeps : ((i : ℕ) → i < n → q i ≡ false) → find q (numbers 0 n) ≡ None
   keeps f = none_find q 0 n (λ i a b. f i (rw zero-add at b))
 
 -- rules 7 to 9, 23 and 25
-pub tasks_kept : (out : Bool) (f : Figures) → none ≡ scan (task_rows out f) → (out ≡ false) × TasksInRange f
+pub tasks_kept : (out : Bool) (f : Figures) → None ≡ scan (task_rows out f) → (out ≡ false) × TasksInRange f
 unfolding task_rows bad_period bad_budget bad_stroke bad_core
 tasks_kept out f e =
     let a = scan_clear 7 _ _ e in
@@ -85,7 +86,7 @@ tasks_kept out f e =
       },
     )
 
-tasks_keep : (out : Bool) (f : Figures) → out ≡ false → TasksInRange f → scan (task_rows out f) ≡ none
+tasks_keep : (out : Bool) (f : Figures) → out ≡ false → TasksInRange f → scan (task_rows out f) ≡ None
 unfolding task_rows bad_period bad_budget bad_stroke bad_core
 tasks_keep out f e t =
     row_clear 7 _ _ (keeps (bad_period f.period) _ (λ i h. range_in 60000 _ (t.period i h).0 (t.period i h).1))
@@ -100,8 +101,8 @@ unfolding bare is_on is_none
 not_bare n on k e = by (find (is_on on k) (numbers 0 n)) refl
   where
     by : (o : Option ℕ) → find (is_on on k) (numbers 0 n) ≡ o → (i : ℕ) × (i < n) × (on i ≡ k)
-    by none t = absurd (true≢false (rw t at e))
-    by (some i) t =
+    by None t = absurd (true≢false (rw t at e))
+    by (Some i) t =
         let w = find_some_lem (is_on on k) 0 n i t in
         (i, rw zero-add at w.0, eqb-true _ _ w.1)
 
@@ -110,11 +111,11 @@ unfolding bare is_none is_on
 has_task n on k i h e = by (find (is_on on k) (numbers 0 n)) refl
   where
     by : (o : Option ℕ) → find (is_on on k) (numbers 0 n) ≡ o → is_none o ≡ false
-    by none t = absurd (eqb-false _ _ (kept (is_on on k) n t i h) e)
-    by (some j) t = refl
+    by None t = absurd (eqb-false _ _ (kept (is_on on k) n t i h) e)
+    by (Some j) t = refl
 
 -- rules 10 to 12
-pub cores_kept : (f : Figures) → none ≡ scan (core_rows f) → CoresInRange f
+pub cores_kept : (f : Figures) → None ≡ scan (core_rows f) → CoresInRange f
 unfolding core_rows bad_factor bad_pivot stretched_at stretched
 cores_kept f e =
     let a = scan_clear 10 _ _ e in
@@ -130,7 +131,7 @@ cores_kept f e =
       accelerated = λ i h. ltb-false _ _ (kept (stretched_at f) _ d.0 i h);
     }
 
-cores_keep : (f : Figures) → CoresInRange f → scan (core_rows f) ≡ none
+cores_keep : (f : Figures) → CoresInRange f → scan (core_rows f) ≡ None
 unfolding core_rows bad_factor bad_pivot stretched_at stretched
 cores_keep f t =
     row_clear 10 _ _ (core_none _ (keeps (bare f.tasks f.core) _ (λ k h. has_task _ _ k (t.not_bare k h).0 (t.not_bare k h).1 (t.not_bare k h).2)))
@@ -139,7 +140,7 @@ cores_keep f t =
     (row_clear 12 _ _ (keeps (stretched_at f) _ (λ i h. le-ltb _ _ (t.accelerated i h))) end_clear)))
 
 -- rules 13 and 14
-fits_kept : (f : Figures) → none ≡ scan (fit_rows f) → CoresFit f
+fits_kept : (f : Figures) → None ≡ scan (fit_rows f) → CoresFit f
 unfolding fit_rows chain_break_on overloaded_on LoadAtMostOne
 fits_kept f e =
     let a = scan_clear 13 _ _ e in
@@ -149,7 +150,7 @@ fits_kept f e =
       load = λ k h. (levels_fit_exactly _ _ _ _ _ _).0 (kept (overloaded_on f) _ (core_clear _ b.0) k h);
     }
 
-fits_keep : (f : Figures) → CoresFit f → scan (fit_rows f) ≡ none
+fits_keep : (f : Figures) → CoresFit f → scan (fit_rows f) ≡ None
 unfolding fit_rows chain_break_on overloaded_on LoadAtMostOne
 fits_keep f t =
     row_clear 13 _ _ (none_find_some (chain_break_on f) 0 f.cores (λ k a h. multiples_chain _ 1 _ (t.simply_periodic k (rw zero-add at h))))
@@ -165,10 +166,10 @@ unfolding is_set
 not_set r x e = rw e
 
 -- nothing is found among spare bytes exactly when each is zero
-spared : (r l : List ℕ) → find (is_set r) l ≡ none → Each (λ x. get_or r x 0 ≡ 0) l
+spared : (r l : List ℕ) → find (is_set r) l ≡ None → Each (λ x. get_or r x 0 ≡ 0) l
 spared r l e = each_of l (is_zero r) ((none_exactly (is_set r) l).0 e)
 
-spares_none : (r l : List ℕ) → Each (λ x. get_or r x 0 ≡ 0) l → find (is_set r) l ≡ none
+spares_none : (r l : List ℕ) → Each (λ x. get_or r x 0 ≡ 0) l → find (is_set r) l ≡ None
 spares_none r l h = (none_exactly (is_set r) l).1 (each_of l (not_set r) h)
 
 -- rule 3
@@ -188,7 +189,7 @@ version_good s (inr (inl e)) = rw e
 version_good s (inr (inr e)) = rw e
 
 -- rules 1 to 5
-pub frame_kept : (s : List ℕ) → none ≡ scan (frame_rows s) → Framed s
+pub frame_kept : (s : List ℕ) → None ≡ scan (frame_rows s) → Framed s
 unfolding frame_rows is_marked
 frame_kept s e =
     let a = scan_clear 1 _ _ e in
@@ -207,7 +208,7 @@ frame_kept s e =
       size = eqb-true _ _ (not-false _ (whole_clear _ g.0));
     }
 
-pub frame_keep : (s : List ℕ) → Framed s → scan (frame_rows s) ≡ none
+pub frame_keep : (s : List ℕ) → Framed s → scan (frame_rows s) ≡ None
 unfolding frame_rows is_marked
 frame_keep s t =
     row_clear 1 _ _ (whole_none _ (le-ltb (length s) 8 (omega (arith, t.size))))
@@ -217,17 +218,17 @@ frame_keep s t =
     (row_clear 5 _ _ (whole_none _ (rw (eq-eqb _ _ t.size))) end_clear))))
 
 -- the verdict and the table
-clear_accepted : (s : List ℕ) → scan (rules s) ≡ none → verdict s ≡ accepted (task_count s) (core_count s)
+clear_accepted : (s : List ℕ) → scan (rules s) ≡ None → verdict s ≡ accepted (task_count s) (core_count s)
 unfolding verdict outcome
 clear_accepted s e = rw e
 
-accepted_clear : (s : List ℕ) (n c : ℕ) → verdict s ≡ accepted n c → (none ≡ scan (rules s)) × (n ≡ task_count s) × (c ≡ core_count s)
+accepted_clear : (s : List ℕ) (n c : ℕ) → verdict s ≡ accepted n c → (None ≡ scan (rules s)) × (n ≡ task_count s) × (c ≡ core_count s)
 unfolding verdict outcome
 accepted_clear s n c e = by (scan (rules s)) e
   where
-    by : (o : Option Refused) → outcome o (task_count s) (core_count s) ≡ accepted n c → (none ≡ o) × (n ≡ task_count s) × (c ≡ core_count s)
-    by none t = (refl, cc, cc)
-    by (some r) t = absurd (let z : ◌≡◌ {A = ℕ} 0 1 = cc in omega arith)
+    by : (o : Option Refused) → outcome o (task_count s) (core_count s) ≡ accepted n c → (None ≡ o) × (n ≡ task_count s) × (c ≡ core_count s)
+    by None t = (refl, cc, cc)
+    by (Some r) t = absurd (let z : ◌≡◌ {A = ℕ} 0 1 = cc in omega arith)
 
 -- rule 23, as a row and as a proposition
 pub order_kept : (grouped stroked : Bool) (n c : ℕ) (records : List ℕ) → bad_order grouped (positioned_in grouped stroked n c records) records ≡ false → OrderKept grouped stroked n c records
@@ -241,7 +242,7 @@ order_keep true stroked n c records h = order_in _ _ _ n c (h refl)
 order_keep false stroked n c records h = refl
 
 -- acceptance, from the table and back
-from_table : (s : List ℕ) → none ≡ scan (rules s) → Acceptable s
+from_table : (s : List ℕ) → None ≡ scan (rules s) → Acceptable s
 unfolding rules spare_rows part_rows record_rows Each
 from_table s e =
     let f : Figures = by_position s in
@@ -266,7 +267,7 @@ from_table s e =
       fitting = record { tasks = t.1; cores = cores_kept f g.0; fits = fits_kept f g.1 };
     }
 
-to_table : (s : List ℕ) → Acceptable s → scan (rules s) ≡ none
+to_table : (s : List ℕ) → Acceptable s → scan (rules s) ≡ None
 unfolding rules spare_rows part_rows record_rows Each
 to_table s t =
     let f : Figures = by_position s in

@@ -3,7 +3,7 @@
 use Prim.Native.Nat.{ℕ, suc, ◌+◌, ◌≤◌, ◌<◌}
 use mathlib.Core.Path.{◌≡◌, refl, sym, ap, ◌∙◌}
 use mathlib.Core.Bool.{Bool, true, false, not, cond, ◌&&◌, and-true, and-false}
-use mathlib.Core.Option.{Option, none, some}
+use Rattle.std.specs.Prelude.{Option, None, Some}
 use mathlib.Core.List.{List, [], ◌∷◌}
 use native.Mathlib.Numerals.{add-one}
 use native.Mathlib.Nat.{zero-add}
@@ -33,8 +33,8 @@ flags_start core = record { size = refl; flags = λ k h. rw (get_or-replicate 25
 -- one task more
 none_both : (a b : Option ℕ) → is_none (or_else a b) ≡ (is_none a && is_none b)
 unfolding is_none
-none_both none b = refl
-none_both (some x) b = refl
+none_both None b = refl
+none_both (Some x) b = refl
 
 bare_next : (core : ℕ → ℕ) (i k : ℕ) → bare (suc i) core k ≡ (bare i core k && not (is_on core k i))
 unfolding bare find is_none
@@ -43,7 +43,7 @@ bare_next core i k = ap is_none step ∙ none_both (find (is_on core k) (numbers
     step : find (is_on core k) (numbers 0 (suc i)) ≡ or_else (find (is_on core k) (numbers 0 i)) (find (is_on core k) (i ∷ []))
     step = rw (numbers_last 0 i, zero-add i) (find_append (is_on core k) (numbers 0 i) (i ∷ []))
 
-    one : (b : Bool) → is_none (cond b (some i) none) ≡ not b
+    one : (b : Bool) → is_none (cond b (Some i) None) ≡ not b
     one true = refl
     one false = refl
 
@@ -62,7 +62,7 @@ flags_end core n i used a b f =
 
 -- the search for a core without a task
 module _ (core : ℕ → ℕ) (n c k : ℕ) (used : List Bool) (h : k < c) (few : c < 256) (u : Used n core used) (l : Left (bare n core) c k) where
-  pub bare_hit : not (get_or used k false) ≡ true → some k ≡ find (bare n core) (numbers 0 c)
+  pub bare_hit : not (get_or used k false) ≡ true → Some k ≡ find (bare n core) (numbers 0 c)
   bare_hit e = find_hit (bare n core) c k (not (get_or used k false)) h l (u.flags k (omega arith)) e
 
   pub bare_turn : not (get_or used k false) ≡ false → Left (bare n core) c (k + 1)

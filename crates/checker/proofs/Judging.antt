@@ -3,7 +3,7 @@
 use Prim.Native.Nat.{ℕ, ◌+◌, ◌-◌, ◌*◌, ◌≤◌, ◌<◌, min}
 use mathlib.Core.Path.{◌≡◌, refl, sym, ap, subst, ◌∙◌}
 use mathlib.Core.Bool.{Bool, true, false, cond}
-use mathlib.Core.Option.{Option, none, some}
+use Rattle.std.specs.Prelude.{Option, None, Some}
 use mathlib.Core.List.{List, []}
 use native.Mathlib.Omega.{arith}
 use native.Mathlib.Nat.{sub-zero}
@@ -71,8 +71,8 @@ module _ (f : Figures) (k from : ℕ) (list : List ℕ) (r : InRange f) (h : k <
 -- what is said of a core that is over
 over_answer : (o : Option ℕ) (L : ℕ) (x : Chain) → x ≡ chain_answer o L → ((i : ℕ) → x ≡ Broken i → Unchained i ≡ judged o true) × ((m : ℕ) → x ≡ Whole m → Chained true ≡ judged o true)
 unfolding chain_answer judged
-over_answer none L x e = ((λ i h. absurd (let z : ◌≡◌ {A = Chain} (Broken i) (Whole L) = sym h ∙ e in let y : ◌≡◌ {A = ℕ} 0 1 = cc in omega arith)), (λ m h. refl))
-over_answer (some j) L x e = ((λ i h. let z : ◌≡◌ {A = Chain} (Broken i) (Broken j) = sym h ∙ e in cc), (λ m h. absurd (let z : ◌≡◌ {A = Chain} (Whole m) (Broken j) = sym h ∙ e in let y : ◌≡◌ {A = ℕ} 0 1 = cc in omega arith)))
+over_answer None L x e = ((λ i h. absurd (let z : ◌≡◌ {A = Chain} (Broken i) (Whole L) = sym h ∙ e in let y : ◌≡◌ {A = ℕ} 0 1 = cc in omega arith)), (λ m h. refl))
+over_answer (Some j) L x e = ((λ i h. let z : ◌≡◌ {A = Chain} (Broken i) (Broken j) = sym h ∙ e in cc), (λ m h. absurd (let z : ◌≡◌ {A = Chain} (Whole m) (Broken j) = sym h ∙ e in let y : ◌≡◌ {A = ℕ} 0 1 = cc in omega arith)))
 
 pub over_broken : (M : ℕ → ℕ) (l : List ℕ) (x : Chain) (i : ℕ) → x ≡ chained M l → x ≡ Broken i → Unchained i ≡ judged (chain_break M 1 l) true
 unfolding chained
@@ -82,19 +82,19 @@ pub over_whole : (M : ℕ → ℕ) (l : List ℕ) (x : Chain) (m : ℕ) → x �
 unfolding chained
 over_whole M l x m e = (over_answer (chain_break M 1 l) _ x e).1 m
 
-judged_broken : (o : Option ℕ) (b : Bool) (i : ℕ) → Unchained i ≡ judged o b → o ≡ some i
+judged_broken : (o : Option ℕ) (b : Bool) (i : ℕ) → Unchained i ≡ judged o b → o ≡ Some i
 unfolding judged
-judged_broken none b i e = absurd (let z : ◌≡◌ {A = ℕ} 0 1 = cc in omega arith)
-judged_broken (some j) b i e = cc
+judged_broken None b i e = absurd (let z : ◌≡◌ {A = ℕ} 0 1 = cc in omega arith)
+judged_broken (Some j) b i e = cc
 
-judged_whole : (o : Option ℕ) (b x : Bool) → Chained x ≡ judged o b → (o ≡ none) × (x ≡ b)
+judged_whole : (o : Option ℕ) (b x : Bool) → Chained x ≡ judged o b → (o ≡ None) × (x ≡ b)
 unfolding judged
-judged_whole none b x e = (refl, cc)
-judged_whole (some j) b x e = absurd (let z : ◌≡◌ {A = ℕ} 0 1 = cc in omega arith)
+judged_whole None b x e = (refl, cc)
+judged_whole (Some j) b x e = absurd (let z : ◌≡◌ {A = ℕ} 0 1 = cc in omega arith)
 
 -- the loop over the cores: no chain is broken below k, and the first that is over there is kept
 unfoldable pub over_or : ℕ → Option ℕ → Option ℕ
-over_or found o = cond (eqb found 255) o (some found)
+over_or found o = cond (eqb found 255) o (Some found)
 
 pub record Passed (f : Figures) (c k found : ℕ) : Type 0 where
   pub chains : find_some (chain_break_on f) (numbers 0 c) ≡ find_some (chain_break_on f) (numbers k (c - k))
@@ -105,14 +105,14 @@ unfolding over_or
 fit_start f c = record { chains = rw (sub-zero c); loads = rw (sub-zero c) }
 
 module _ (f : Figures) (c k found : ℕ) (r : Judged) (h : k < c) (small : c < 256) (p : Passed f c k found) (e : r ≡ judged (chain_break_on f k) (overloaded_on f k)) where
-  pub fit_broken : (i : ℕ) → r ≡ Unchained i → some i ≡ find_some (chain_break_on f) (numbers 0 c)
+  pub fit_broken : (i : ℕ) → r ≡ Unchained i → Some i ≡ find_some (chain_break_on f) (numbers 0 c)
   unfolding find_some
   fit_broken i q = sym (p.chains ∙ rw (front c k h, judged_broken _ _ i (sym q ∙ e)))
 
   pub fit_turn : (found' : ℕ) (b : Bool) → r ≡ Chained b → found' ≡ first_over found k b → Passed f c (k + 1) found'
   unfolding find_some over_or first_over find
   fit_turn found' b q t =
-      let w : (chain_break_on f k ≡ none) × (b ≡ overloaded_on f k) = judged_whole _ _ b (sym q ∙ e) in
+      let w : (chain_break_on f k ≡ None) × (b ≡ overloaded_on f k) = judged_whole _ _ b (sym q ∙ e) in
       record { chains = p.chains ∙ rw (front c k h, w.0); loads = p.loads ∙ loaded b (ℕ_discrete found 255) w.1 t }
     where
       rest : Option ℕ
@@ -130,14 +130,14 @@ none_left c k h =
     let e : c - k ≡ 0 = omega arith in
     rw e
 
-pub fit_end : (f : Figures) (c k found : ℕ) → c ≤ k → Passed f c k found → none ≡ find_some (chain_break_on f) (numbers 0 c)
+pub fit_end : (f : Figures) (c k found : ℕ) → c ≤ k → Passed f c k found → None ≡ find_some (chain_break_on f) (numbers 0 c)
 unfolding find_some
 fit_end f c k found h p = sym (p.chains ∙ rw (none_left c k h))
 
-pub fit_clear : (f : Figures) (c k found : ℕ) → c ≤ k → Passed f c k found → found ≡ 255 → none ≡ find (overloaded_on f) (numbers 0 c)
+pub fit_clear : (f : Figures) (c k found : ℕ) → c ≤ k → Passed f c k found → found ≡ 255 → None ≡ find (overloaded_on f) (numbers 0 c)
 unfolding find over_or
 fit_clear f c k found h p e = sym (p.loads ∙ rw (none_left c k h, e))
 
-pub fit_over : (f : Figures) (c k found : ℕ) → c ≤ k → Passed f c k found → (found ≡ 255 → ⊥) → some found ≡ find (overloaded_on f) (numbers 0 c)
+pub fit_over : (f : Figures) (c k found : ℕ) → c ≤ k → Passed f c k found → (found ≡ 255 → ⊥) → Some found ≡ find (overloaded_on f) (numbers 0 c)
 unfolding find over_or
 fit_over f c k found h p e = sym (p.loads ∙ rw (ne_eqb found 255 e))

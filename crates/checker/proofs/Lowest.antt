@@ -5,7 +5,8 @@ use mathlib.Core.Path.{◌≡◌, refl, sym, ap, ◌∙◌}
 use mathlib.Core.Logic.{◌↔◌}
 use mathlib.Core.Bool.{Bool, true, false, cond, true≢false}
 use mathlib.Core.Option
-use mathlib.Core.Option.{Option, none, some, none-ne-some}
+use Rattle.std.specs.Prelude.{Option, None, Some}
+use Rattle.sheet.proofs.Options.{none-ne-some}
 use mathlib.Core.List.{List, [], ◌∷◌, ◌++◌, map}
 use native.Mathlib.Omega.{arith}
 use native.Mathlib.Nat.{add_assoc}
@@ -82,7 +83,7 @@ unfolding offset find
 find_part s [] = refl
 find_part s (x ∷ l) = rw (set_part s x) (by (is_set s (8 + x)) (find_part s l))
   where
-    by : (b : Bool) → offset (find (is_set (drop 8 s)) l) ≡ find (is_set s) (map (λ a. 8 + a) l) → offset (cond b (some x) (find (is_set (drop 8 s)) l)) ≡ cond b (some (8 + x)) (find (is_set s) (map (λ a. 8 + a) l))
+    by : (b : Bool) → offset (find (is_set (drop 8 s)) l) ≡ find (is_set s) (map (λ a. 8 + a) l) → offset (cond b (Some x) (find (is_set (drop 8 s)) l)) ≡ cond b (Some (8 + x)) (find (is_set s) (map (λ a. 8 + a) l))
     by true h = refl
     by false h = h
 
@@ -104,10 +105,10 @@ spare_at x = record { number = 6; place = x }
 
 three : (a b c : Option ℕ) → scan (6 at a ∷ 6 at b ∷ 6 at c ∷ []) ≡ Option.map spare_at (or_else a (or_else b c))
 unfolding scan
-three (some x) b c = refl
-three none (some x) c = refl
-three none none (some x) = refl
-three none none none = refl
+three (Some x) b c = refl
+three None (Some x) c = refl
+three None None (Some x) = refl
+three None None None = refl
 
 rows_find : (s : List ℕ) (grouped stroked : Bool) (n c : ℕ) → scan (spare_rows grouped stroked n c s (drop 8 s)) ≡ Option.map spare_at (find (is_set s) (spares grouped stroked n c))
 unfolding spare_rows spares
@@ -118,10 +119,10 @@ rows_find s grouped stroked n c =
     (ap (Option.map spare_at) (sym whole))
 
 -- the first of the offsets that is set is the lowest
-lowest_exactly : (s : List ℕ) (x : ℕ) → (find (is_set s) (spares (is_grouped s) (is_stroked s) (task_count s) (core_count s)) ≡ some x) ↔ LowestSpare s x
+lowest_exactly : (s : List ℕ) (x : ℕ) → (find (is_set s) (spares (is_grouped s) (is_stroked s) (task_count s) (core_count s)) ≡ Some x) ↔ LowestSpare s x
 lowest_exactly s x = (to x, back)
   where
-    to : (x : ℕ) → find (is_set s) (spares (is_grouped s) (is_stroked s) (task_count s) (core_count s)) ≡ some x → LowestSpare s x
+    to : (x : ℕ) → find (is_set s) (spares (is_grouped s) (is_stroked s) (task_count s) (core_count s)) ≡ Some x → LowestSpare s x
     to x e =
         let r = found_each (is_set s) x (SpareOffset s) _ e (spares_all (SpareOffset s) s (λ y h. h)) in
         record {
@@ -130,17 +131,17 @@ lowest_exactly s x = (to x, back)
           lowest = λ y o h. is_zero s y (spares_each (λ y. y < x → is_set s y ≡ false) s (found_lowest (is_set s) x _ (spares_rise (is_grouped s) (is_stroked s) (task_count s) (core_count s)) e) y o h);
         }
 
-    back : LowestSpare s x → find (is_set s) (spares (is_grouped s) (is_stroked s) (task_count s) (core_count s)) ≡ some x
+    back : LowestSpare s x → find (is_set s) (spares (is_grouped s) (is_stroked s) (task_count s) (core_count s)) ≡ Some x
     back t = by (find (is_set s) (spares (is_grouped s) (is_stroked s) (task_count s) (core_count s))) refl
       where
-        by : (o : Option ℕ) → find (is_set s) (spares (is_grouped s) (is_stroked s) (task_count s) (core_count s)) ≡ o → find (is_set s) (spares (is_grouped s) (is_stroked s) (task_count s) (core_count s)) ≡ some x
-        by none e = absurd (t.set (is_zero s x (spares_each (λ y. is_set s y ≡ false) s ((none_exactly (is_set s) _).0 e) x t.spare)))
-        by (some y) e =
+        by : (o : Option ℕ) → find (is_set s) (spares (is_grouped s) (is_stroked s) (task_count s) (core_count s)) ≡ o → find (is_set s) (spares (is_grouped s) (is_stroked s) (task_count s) (core_count s)) ≡ Some x
+        by None e = absurd (t.set (is_zero s x (spares_each (λ y. is_set s y ≡ false) s ((none_exactly (is_set s) _).0 e) x t.spare)))
+        by (Some y) e =
             let u = to y e in
             let a : y < x → ⊥ = λ h. u.set (t.lowest y u.spare h) in
             let b : x < y → ⊥ = λ h. t.set (u.lowest x t.spare h) in
             let z : y ≡ x = omega (arith, a, b) in
-            e ∙ ap some z
+            e ∙ ap Some z
 
 -- The three rows are broken first at x exactly when x is the lowest offset of a spare byte that is not 0.
 pub spare_rows_exactly : (s : List ℕ) (x : ℕ) → FirstBroken (spare_rows (is_grouped s) (is_stroked s) (task_count s) (core_count s) s (drop 8 s)) 6 x ↔ LowestSpare s x
@@ -149,6 +150,6 @@ spare_rows_exactly s x = (
   (λ t. (scan_exactly _ 6 x).0 (rows_find s (is_grouped s) (is_stroked s) (task_count s) (core_count s) ∙ rw ((lowest_exactly s x).1 t))),
 )
   where
-    place : (o : Option ℕ) → Option.map spare_at o ≡ some (record { number = 6; place = x }) → o ≡ some x
-    place none e = absurd (none-ne-some _ e)
-    place (some y) e = ap (Option.map (λ (r : Refused). r.place)) e
+    place : (o : Option ℕ) → Option.map spare_at o ≡ Some (record { number = 6; place = x }) → o ≡ Some x
+    place None e = absurd (none-ne-some _ e)
+    place (Some y) e = ap (Option.map (λ (r : Refused). r.place)) e

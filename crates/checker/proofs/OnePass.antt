@@ -3,7 +3,7 @@
 use Prim.Native.Nat.{ℕ, suc, ◌+◌, ◌-◌, ◌*◌, ◌/◌, ◌%◌, ◌≤◌, ◌<◌, min, zero-le}
 use mathlib.Core.Path.{◌≡◌, refl, sym, ◌∙◌}
 use mathlib.Core.Bool.{Bool, true, false, or-true}
-use mathlib.Core.Option.{Option, none, some}
+use Rattle.std.specs.Prelude.{Option, None, Some}
 use mathlib.Core.List.{List, ◌∷◌}
 use native.Mathlib.Nat.{mul-le-mul_right, le_trans, div-add-mod'}
 use native.Mathlib.Numerals.{add-one}
@@ -52,10 +52,10 @@ pass_start tasks l stroked Q D bytes small =
     byte false i = omega arith
 
 -- a core that is over
-over_judged : (o : Option ℕ) (b : Bool) → (o ≡ none → b ≡ true) → judged o true ≡ judged o b
+over_judged : (o : Option ℕ) (b : Bool) → (o ≡ None → b ≡ true) → judged o true ≡ judged o b
 unfolding judged
-over_judged none b h = rw (h refl)
-over_judged (some i) b h = refl
+over_judged None b h = rw (h refl)
+over_judged (Some i) b h = refl
 
 module _ (e q M : ℕ → ℕ) (Q D : ℕ) (l : List ℕ) (load d room i : ℕ) (h : i < length l) (pos : Each (λ j. 0 < M j) l) (k : Passing e q M Q D l load d room i) (m c : ℕ) (em : m ≡ M (get_or l i 0)) (ec : c ≡ m / d) where
   next : drop i l ≡ get_or l i 0 ∷ drop (suc i) l
@@ -105,7 +105,7 @@ module _ (e q M : ℕ → ℕ) (Q D : ℕ) (l : List ℕ) (load d room i : ℕ) 
 pub pass_end : (e q M : ℕ → ℕ) (Q D : ℕ) (l : List ℕ) (load d room i : ℕ) → length l ≤ i → Each (λ j. 0 < M j) l → Passing e q M Q D l load d room i → Chained false ≡ judged (chain_break M 1 l) (level_overloaded e q M Q D l)
 unfolding chain_break over_along judged
 pass_end e q M Q D l load d room i h pos k =
-    let whole : chain_break M 1 l ≡ none = k.chain ∙ rw (drop_of_length-le l {i = i} h) in
+    let whole : chain_break M 1 l ≡ None = k.chain ∙ rw (drop_of_length-le l {i = i} h) in
     let over : level_overloaded e q M Q D l ≡ false = k.over (chain_multiples M 1 l whole) pos ∙ rw (drop_of_length-le l {i = i} h) in
     rw (whole, over)
 

@@ -4,7 +4,8 @@ use Prim.Native.Nat.{ℕ}
 use mathlib.Core.Path.{◌≡◌, refl, sym, ap, subst}
 use mathlib.Core.Logic.{◌↔◌}
 use mathlib.Core.Bool.{Bool, false}
-use mathlib.Core.Option.{Option, none, some, map}
+use Rattle.std.specs.Prelude.{Option, None, Some}
+use Rattle.std.specs.Option.{option_map}
 use mathlib.Core.List.{List, [], ◌∷◌, ◌++◌, append_assoc}
 use native.Mathlib.Omega.{arith}
 use lib.ListN.{drop}
@@ -28,15 +29,15 @@ pub refused_exactly : (s : List ℕ) (k x : ℕ) → (verdict s ≡ refused k x)
 unfolding verdict outcome
 refused_exactly s k x = ((λ e. (scan_exactly (rules s) k x).0 (by (scan (rules s)) e)), (λ b. rw ((scan_exactly (rules s) k x).1 b)))
   where
-    by : (o : Option Refused) → outcome o (task_count s) (core_count s) ≡ refused k x → o ≡ some (record { number = k; place = x })
-    by none e = absurd (let z : ◌≡◌ {A = ℕ} 0 1 = cc in omega arith)
-    by (some r) e =
+    by : (o : Option Refused) → outcome o (task_count s) (core_count s) ≡ refused k x → o ≡ Some (record { number = k; place = x })
+    by None e = absurd (let z : ◌≡◌ {A = ℕ} 0 1 = cc in omega arith)
+    by (Some r) e =
         let a : r.number ≡ k = cc in
         let b : r.place ≡ x = cc in
         rw (← a, ← b)
 
 -- Rule 13: no core before it has a broken chain, and in its core it is the first task by priority that breaks it.
-pub chain_exactly : (f : Figures) (x : ℕ) → (find_some (chain_break_on f) (numbers 0 f.cores) ≡ some x) ↔ FirstChainBreak f x
+pub chain_exactly : (f : Figures) (x : ℕ) → (find_some (chain_break_on f) (numbers 0 f.cores) ≡ Some x) ↔ FirstChainBreak f x
 unfolding chain_break_on
 chain_exactly f x = (
   (λ e. let r = (find_some_exactly (chain_break_on f) f.cores x).0 e in record { core = r.number; below = r.below; breaks = (break_exactly _ 1 _ x).0 r.answers; first = λ k h. chain_multiples _ 1 _ (r.first k h) }),
@@ -44,7 +45,7 @@ chain_exactly f x = (
 )
 
 -- A rule that has one row is broken first at x exactly when every row before it is kept and its place is x.
-pub rule_exactly : (s : List ℕ) (k x : ℕ) (before : List Row) (o : Option ℕ) (after : List Row) → rules s ≡ before ++ k at o ∷ after → has_rule k before ≡ false → has_rule k after ≡ false → (verdict s ≡ refused k x) ↔ (AllKept before × (o ≡ some x))
+pub rule_exactly : (s : List ℕ) (k x : ℕ) (before : List Row) (o : Option ℕ) (after : List Row) → rules s ≡ before ++ k at o ∷ after → has_rule k before ≡ false → has_rule k after ≡ false → (verdict s ≡ refused k x) ↔ (AllKept before × (o ≡ Some x))
 rule_exactly s k x before o after e a b =
     let part = part_exactly before (k at o ∷ []) after k x a b in
     let row = row_exactly k x o in (
@@ -53,13 +54,13 @@ rule_exactly s k x before o after e a b =
     )
 
 -- one rule is not another
-pub other_rule : {A : Type 0} (j y k x : ℕ) → (j ≡ k → ⊥) → ◌≡◌ {A = Option Refused} (some (record { number = j; place = y })) (some (record { number = k; place = x })) → A
+pub other_rule : {A : Type 0} (j y k x : ℕ) → (j ≡ k → ⊥) → ◌≡◌ {A = Option Refused} (Some (record { number = j; place = y })) (Some (record { number = k; place = x })) → A
 other_rule j y k x n e =
-    let w : some j ≡ some k = ap (map (λ (r : Refused). r.number)) e in
+    let w : Some j ≡ Some k = ap (option_map (λ (r : Refused). r.number)) e in
     absurd (n cc)
 
 -- A rule that stands in the rows of the tasks alone is given by them.
-pub tasks_found : (s : List ℕ) (k x : ℕ) → has_rule k (frame_rows s ++ spare_rows (is_grouped s) (is_stroked s) (task_count s) (core_count s) s (drop 8 s)) ≡ false → has_rule k (core_rows (by_position s) ++ fit_rows (by_position s)) ≡ false → verdict s ≡ refused k x → scan (task_rows (bad_order (is_grouped s) (by_position s) (drop 8 s)) (by_position s)) ≡ some (record { number = k; place = x })
+pub tasks_found : (s : List ℕ) (k x : ℕ) → has_rule k (frame_rows s ++ spare_rows (is_grouped s) (is_stroked s) (task_count s) (core_count s) s (drop 8 s)) ≡ false → has_rule k (core_rows (by_position s) ++ fit_rows (by_position s)) ≡ false → verdict s ≡ refused k x → scan (task_rows (bad_order (is_grouped s) (by_position s) (drop 8 s)) (by_position s)) ≡ Some (record { number = k; place = x })
 unfolding rules part_rows record_rows
 tasks_found s k x a b v =
     let f : Figures = by_position s in

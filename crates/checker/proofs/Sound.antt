@@ -3,7 +3,7 @@
 use Prim.Native.Nat.{ℕ, ◌+◌, ◌≤◌, ◌<◌}
 use mathlib.Core.Path.{◌≡◌, refl, sym, ap, ◌∙◌}
 use mathlib.Core.Bool.{Bool, true, false, not, ◌||◌}
-use mathlib.Core.Option.{Option, none, some}
+use Rattle.std.specs.Prelude.{Option, None, Some}
 use mathlib.Core.List.{[], ◌∷◌, ◌++◌, append_assoc}
 use native.Mathlib.Nat.{zero-add}
 use native.Mathlib.Decide.{ℕ_discrete}
@@ -61,13 +61,13 @@ parts f i e =
     record { period = c.0; budget = g.0; stroke = g.1; core = d.0; factor = d.1; stretch = a.1 }
 
 module _ (f : Figures) (all : (i : ℕ) → i < f.tasks → sound_at f i ≡ true) where
-  clear : (q : ℕ → Bool) → ((i : ℕ) → Parts f i → q i ≡ false) → none ≡ find q (numbers 0 f.tasks)
+  clear : (q : ℕ → Bool) → ((i : ℕ) → Parts f i → q i ≡ false) → None ≡ find q (numbers 0 f.tasks)
   clear q h = sym (none_find q 0 f.tasks (λ i a b. h i (parts f i (all i (rw zero-add at b)))))
 
-  pub factors_clear : none ≡ find (bad_factor f.factor) (numbers 0 f.tasks)
+  pub factors_clear : None ≡ find (bad_factor f.factor) (numbers 0 f.tasks)
   factors_clear = clear (bad_factor f.factor) (λ i p. p.factor)
 
-  pub stretch_clear : none ≡ find (stretched_at f) (numbers 0 f.tasks)
+  pub stretch_clear : None ≡ find (stretched_at f) (numbers 0 f.tasks)
   stretch_clear = clear (stretched_at f) (λ i p. p.stretch)
 
   -- rules 7, 8 and 25 are clear before rule 23, and rule 9 after it
@@ -76,14 +76,14 @@ module _ (f : Figures) (all : (i : ℕ) → i < f.tasks → sound_at f i ≡ tru
   to_order b x e =
       scan_skip 7 _ _ x (clear (bad_period f.period) (λ i p. p.period)) (scan_skip 8 _ _ x (clear (bad_budget f.period f.budget) (λ i p. p.budget)) (scan_skip 25 _ _ x (clear (bad_stroke f.budget f.stroke) (λ i p. p.stroke)) e))
 
-  pub early_misordered : (b : Bool) → b ≡ true → some (record { number = 23; place = 0 }) ≡ scan (early_rows b f)
+  pub early_misordered : (b : Bool) → b ≡ true → Some (record { number = 23; place = 0 }) ≡ scan (early_rows b f)
   unfolding early_rows
   early_misordered b h =
       scan_first (task_rows b f) (core_rows f) _ (to_order b _ (scan_hit 23 0 _ _ (whole_true b b refl h)))
 
-  tasks_clear : (b : Bool) → b ≡ false → none ≡ scan (task_rows b f)
+  tasks_clear : (b : Bool) → b ≡ false → None ≡ scan (task_rows b f)
   tasks_clear b h =
-      to_order b none (scan_skip 23 _ _ none (whole_false b b refl h) (scan_skip 9 _ _ none (clear (bad_core f.cores f.core) (λ i p. p.core)) scan_none))
+      to_order b None (scan_skip 23 _ _ None (whole_false b b refl h) (scan_skip 9 _ _ None (clear (bad_core f.cores f.core) (λ i p. p.core)) scan_none))
 
   pub early_fast : (b : Bool) (r : Finding) → b ≡ false → finding_of r ≡ scan (core_rows f) → finding_of r ≡ scan (early_rows b f)
   unfolding early_rows

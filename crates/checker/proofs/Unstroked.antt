@@ -4,7 +4,9 @@ use Prim.Native.Nat.{ℕ, ◌≤◌, ◌<◌}
 use mathlib.Core.Path.{◌≡◌, refl, sym, ap, ◌∙◌}
 use mathlib.Core.Logic.{◌↔◌}
 use mathlib.Core.Bool.{Bool, true, false, true≢false}
-use mathlib.Core.Option.{Option, none, some, map, some-ne-none}
+use Rattle.std.specs.Prelude.{Option, None, Some}
+use Rattle.std.specs.Option.{option_map}
+use Rattle.sheet.proofs.Options.{some-ne-none}
 use mathlib.Core.List.{List, [], ◌∷◌, ◌++◌}
 use native.Mathlib.Nat.{zero-add}
 use native.Mathlib.Omega.{arith}
@@ -32,14 +34,14 @@ pub unstroked : (s : List ℕ) → is_stroked s ≡ false → (i : ℕ) → (by_
 unstroked s h i = ap (λ (b : Bool). stroke_of_position b (drop 8 s) i) h
 
 -- rule 25 is broken first among the rows of the tasks: every budget is in range, and some stroke is not
-stroke_first : (a b q d : Option ℕ) (out : Bool) (x : ℕ) → scan (7 at a ∷ 8 at b ∷ 25 at q ∷ 23 at whole out ∷ 9 at d ∷ []) ≡ some (record { number = 25; place = x }) → (b ≡ none) × (q ≡ some x)
+stroke_first : (a b q d : Option ℕ) (out : Bool) (x : ℕ) → scan (7 at a ∷ 8 at b ∷ 25 at q ∷ 23 at whole out ∷ 9 at d ∷ []) ≡ Some (record { number = 25; place = x }) → (b ≡ None) × (q ≡ Some x)
 unfolding scan whole
-stroke_first (some y) b q d out x e = other_rule 7 _ 25 x (λ z. omega arith) e
-stroke_first none (some y) q d out x e = other_rule 8 _ 25 x (λ z. omega arith) e
-stroke_first none none (some y) d out x e = (refl, ap (map (λ (r : Refused). r.place)) e)
-stroke_first none none none d true x e = other_rule 23 _ 25 x (λ z. omega arith) e
-stroke_first none none none (some y) false x e = other_rule 9 _ 25 x (λ z. omega arith) e
-stroke_first none none none none false x e = absurd (some-ne-none _ (sym e))
+stroke_first (Some y) b q d out x e = other_rule 7 _ 25 x (λ z. omega arith) e
+stroke_first None (Some y) q d out x e = other_rule 8 _ 25 x (λ z. omega arith) e
+stroke_first None None (Some y) d out x e = (refl, ap (option_map (λ (r : Refused). r.place)) e)
+stroke_first None None None d true x e = other_rule 23 _ 25 x (λ z. omega arith) e
+stroke_first None None None (Some y) false x e = other_rule 9 _ 25 x (λ z. omega arith) e
+stroke_first None None None None false x e = absurd (some-ne-none _ (sym e))
 
 -- a budget in range is no less than a stroke of one tick
 one_tick_lem : (p e q : ℕ → ℕ) (i : ℕ) → bad_budget p e i ≡ false → q i ≡ 1 → bad_stroke e q i ≡ false

@@ -1,6 +1,7 @@
 -- The rules 1 to 14, 23 and 25 as one table, read from the top (docs/SHEET.md, sections 4, 12 and 14). Places of tasks are positions.
 use Rattle.std.specs.Prelude.{ℕ, ◌+◌, ◌*◌, Bool, not, ◌||◌, List, [], ◌∷◌, ◌++◌, length, drop, ltb, eqb}
-use Rattle.std.proofs.Math.Option.{Option, map}
+use Rattle.std.specs.Prelude.{Option}
+use Rattle.std.specs.Option.{option_map}
 use Rattle.sheet.specs.Table.{Row, ◌at◌, whole, core}
 use Rattle.sheet.specs.Ranges.{bad_period, bad_budget, bad_stroke}
 use Rattle.sheet.specs.Records.{Figures, task_count, core_count}
@@ -10,7 +11,7 @@ use Rattle.checker.specs.Tests.{is_marked, bad_version, task_spares, core_spares
 
 -- an offset in the part from byte 8, as one in the sheet
 unfoldable pub offset : Option ℕ → Option ℕ
-offset o = map (λ a. 8 + a) o
+offset o = option_map (λ a. 8 + a) o
 
 -- 1 Stub, 2 Mark, 3 Version, 4 Count, 5 Length
 unfoldable pub frame_rows : List ℕ → List Row

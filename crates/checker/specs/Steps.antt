@@ -2,13 +2,13 @@
 use Rattle.std.specs.Prelude.{ℕ, ◌≤◌, ◌<◌, List, ◌++◌, eqb, ◌≡◌, Bool, false, cond, not, ◌||◌, get_or}
 use Rattle.sheet.specs.Table.{Row}
 use Rattle.fit.specs.Priority.{Above}
-use Rattle.std.proofs.Math.Option.{Option, none, some}
+use Rattle.std.specs.Prelude.{Option, None, Some}
 use Rattle.sheet.specs.Ranges.{bad_period, bad_budget, bad_stroke}
 use Rattle.sheet.specs.Records.{Figures}
 use Rattle.checker.specs.declared.early.Test.{Test}
 use Rattle.checker.specs.declared.early.Test.TheVariants.{Period, Budget, Stroke, Core, Factor, Pivot, Stretch}
-use Rattle.checker.specs.declared.fits.Judged.{Judged}
-use Rattle.checker.specs.declared.fits.Judged.TheVariants.{Chained, Unchained}
+use Rattle.std.specs.Prelude.{Result, Ok, Err}
+use Rattle.fit.specs.declared.Break.{Break}
 use Rattle.checker.specs.Rules.{task_rows, core_rows}
 use Rattle.checker.specs.Tests.{bad_core, bare, bad_factor, bad_pivot, stretched_at}
 
@@ -27,9 +27,9 @@ pub record Used (n : ℕ) (core : ℕ → ℕ) (used : List Bool) : Type 0 where
   pub flags : (k : ℕ) → k < 256 → not (get_or used k false) ≡ bare n core k
 
 -- rules 13 and 14 at a core: its chain is broken at a task, or is whole, and then the core is over or not
-unfoldable pub judged : Option ℕ → Bool → Judged
-judged none over = Chained over
-judged (some i) over = Unchained i
+unfoldable pub judged : Option ℕ → Bool → Result Bool Break
+judged None over = Ok over
+judged (Some i) over = Err (record { task = i })
 
 -- the first core that is over, of those before core k (`found`) and core k; 255 stands for none
 unfoldable pub first_over : ℕ → ℕ → Bool → ℕ

@@ -1,6 +1,6 @@
 // Rules 7 to 12, 23 and 25: the figures of tasks and cores.
 ghost use Rattle.std.specs.Prelude.{◌≡◌, true, ℕ, ◌+◌, ◌*◌, ◌<◌, ◌≤◌, length};
-ghost use Rattle.sheet.specs.Table.{scan, found_of, finding_of};
+ghost use Rattle.sheet.specs.Table.{scan, refusal_of};
 ghost use Rattle.sheet.specs.Ranges.{bad_period, bad_budget, bad_stroke};
 ghost use Rattle.sheet.specs.Records.{period_at, budget_at, factor_at, pivot_at, divisor_at, figures_with};
 ghost use Rattle.sheet.specs.Views.{stroke_of_position};
@@ -9,7 +9,7 @@ ghost use Rattle.checker.specs.Tests.{bad_core, bare, bad_factor, bad_pivot, str
 ghost use Rattle.checker.specs.Rules.{task_rows, core_rows};
 ghost use Rattle.checker.specs.Steps.{broken, Used, sound_at, early_rows};
 
-use sheet::{Finding, Found, Refusal};
+use sheet::{Refusal, Rejection};
 
 // The rules that are tested at one task or one core.
 #[derive(Clone, Copy)]
@@ -111,17 +111,17 @@ fn first(
     n: u8,
     c: u8,
     end: u8,
-) -> Found
-    ensures { found_of result ≡ find (broken test (figures_with (at on.now) (stroke_of_position stroked tasks.now) n c tasks.now cores.now)) (numbers 0 end) }
+) -> Option<u8>
+    ensures { result ≡ find (broken test (figures_with (at on.now) (stroke_of_position stroked tasks.now) n c tasks.now cores.now)) (numbers 0 end) }
 {
     let mut i = 0;
     while i < end {
         if is_broken(test, stroked, tasks, cores, on, n, c, i) {
-            return Found::At(i);
+            return Some(i);
         }
         i += 1;
     }
-    Found::Nothing
+    None
 }
 
 // Which cores have a task, by their numbers.
@@ -138,18 +138,18 @@ fn used_cores(on: &[u8], n: u8) -> [bool; 256]
 }
 
 // The first of c cores that has no task.
-fn first_bare(on: &[u8], n: u8, c: u8) -> Found
-    ensures { found_of result ≡ find (bare n (at on.now)) (numbers 0 c) }
+fn first_bare(on: &[u8], n: u8, c: u8) -> Option<u8>
+    ensures { result ≡ find (bare n (at on.now)) (numbers 0 c) }
 {
     let used = used_cores(on, n);
     let mut k = 0;
     while k < c {
         if !used[k as usize] {
-            return Found::At(k);
+            return Some(k);
         }
         k += 1;
     }
-    Found::Nothing
+    None
 }
 
 // Rules 7, 8, 25, 23 and 9.
@@ -161,52 +161,59 @@ fn task_rules(
     n: u8,
     c: u8,
     misordered: bool,
-) -> Finding
-    ensures { finding_of result ≡ scan (task_rows misordered (figures_with (at on.now) (stroke_of_position stroked tasks.now) n c tasks.now cores.now)) }
+) -> Result<(), Rejection>
+    ensures { refusal_of result ≡ scan (task_rows misordered (figures_with (at on.now) (stroke_of_position stroked tasks.now) n c tasks.now cores.now)) }
 {
     let period = first(Test::Period, stroked, tasks, cores, on, n, c, n);
-    if let Found::At(i) = period {
-        return Finding::Broken(Refusal::Period, i as u16);
+    if let Some(i) = period {
+        return Err(Refusal::Period.at(u16::from(i)));
     }
     let budget = first(Test::Budget, stroked, tasks, cores, on, n, c, n);
-    if let Found::At(i) = budget {
-        return Finding::Broken(Refusal::Budget, i as u16);
+    if let Some(i) = budget {
+        return Err(Refusal::Budget.at(u16::from(i)));
     }
     let stroke = first(Test::Stroke, stroked, tasks, cores, on, n, c, n);
-    if let Found::At(i) = stroke {
-        return Finding::Broken(Refusal::Stroke, i as u16);
+    if let Some(i) = stroke {
+        return Err(Refusal::Stroke.at(u16::from(i)));
     }
     if misordered {
-        return Finding::Broken(Refusal::Order, 0);
+        return Err(Refusal::Order.at(0));
     }
     let core = first(Test::Core, stroked, tasks, cores, on, n, c, n);
-    if let Found::At(i) = core {
-        return Finding::Broken(Refusal::Core, i as u16);
+    if let Some(i) = core {
+        return Err(Refusal::Core.at(u16::from(i)));
     }
-    Finding::Clear
+    Ok(())
 }
 
 // Rules 10 to 12.
-fn core_rules(stroked: bool, tasks: &[u8], cores: &[u8], on: &[u8], n: u8, c: u8) -> Finding
-    ensures { finding_of result ≡ scan (core_rows (figures_with (at on.now) (stroke_of_position stroked tasks.now) n c tasks.now cores.now)) }
+fn core_rules(
+    stroked: bool,
+    tasks: &[u8],
+    cores: &[u8],
+    on: &[u8],
+    n: u8,
+    c: u8,
+) -> Result<(), Rejection>
+    ensures { refusal_of result ≡ scan (core_rows (figures_with (at on.now) (stroke_of_position stroked tasks.now) n c tasks.now cores.now)) }
 {
     let bare = first_bare(on, n, c);
-    if let Found::At(k) = bare {
-        return Finding::Broken(Refusal::Bare, 64 + (k as u16));
+    if let Some(k) = bare {
+        return Err(Refusal::Bare.at(64 + u16::from(k)));
     }
     let factor = first(Test::Factor, stroked, tasks, cores, on, n, c, n);
-    if let Found::At(i) = factor {
-        return Finding::Broken(Refusal::Factor, i as u16);
+    if let Some(i) = factor {
+        return Err(Refusal::Factor.at(u16::from(i)));
     }
     let pivot = first(Test::Pivot, stroked, tasks, cores, on, n, c, c);
-    if let Found::At(k) = pivot {
-        return Finding::Broken(Refusal::Factor, 64 + (k as u16));
+    if let Some(k) = pivot {
+        return Err(Refusal::Factor.at(64 + u16::from(k)));
     }
     let stretch = first(Test::Stretch, stroked, tasks, cores, on, n, c, n);
-    if let Found::At(i) = stretch {
-        return Finding::Broken(Refusal::Stretch, i as u16);
+    if let Some(i) = stretch {
+        return Err(Refusal::Stretch.at(u16::from(i)));
     }
-    Finding::Clear
+    Ok(())
 }
 
 // Whether rules 7, 8, 25, 9, 11 and 12 are all kept at task i. Parts of known length are read without a test for each byte.
@@ -245,19 +252,26 @@ fn all_sound(stroked: bool, tasks: &[u8], cores: &[u8], on: &[u8], n: u8, c: u8)
 }
 
 // Rules 10 to 12 where every task keeps its rules: 10 and 11 at the cores are left.
-fn bare_rules(stroked: bool, tasks: &[u8], cores: &[u8], on: &[u8], n: u8, c: u8) -> Finding
+fn bare_rules(
+    stroked: bool,
+    tasks: &[u8],
+    cores: &[u8],
+    on: &[u8],
+    n: u8,
+    c: u8,
+) -> Result<(), Rejection>
     requires { (i : ℕ) → i < n → sound_at (figures_with (at on.now) (stroke_of_position stroked tasks.now) n c tasks.now cores.now) i ≡ true }
-    ensures { finding_of result ≡ scan (core_rows (figures_with (at on.now) (stroke_of_position stroked tasks.now) n c tasks.now cores.now)) }
+    ensures { refusal_of result ≡ scan (core_rows (figures_with (at on.now) (stroke_of_position stroked tasks.now) n c tasks.now cores.now)) }
 {
     let bare = first_bare(on, n, c);
-    if let Found::At(k) = bare {
-        return Finding::Broken(Refusal::Bare, 64 + (k as u16));
+    if let Some(k) = bare {
+        return Err(Refusal::Bare.at(64 + u16::from(k)));
     }
     let pivot = first(Test::Pivot, stroked, tasks, cores, on, n, c, c);
-    if let Found::At(k) = pivot {
-        return Finding::Broken(Refusal::Factor, 64 + (k as u16));
+    if let Some(k) = pivot {
+        return Err(Refusal::Factor.at(64 + u16::from(k)));
     }
-    Finding::Clear
+    Ok(())
 }
 
 // Rules 7 to 12, 23 and 25. Most sheets keep all rules at their tasks: one pass tells.
@@ -269,19 +283,16 @@ pub(crate) fn early_rules(
     n: u8,
     c: u8,
     misordered: bool,
-) -> Finding
+) -> Result<(), Rejection>
     requires { (10 * n ≤ length tasks.now) × (8 * c ≤ length cores.now) }
-    ensures { finding_of result ≡ scan (early_rows misordered (figures_with (at on.now) (stroke_of_position stroked tasks.now) n c tasks.now cores.now)) }
+    ensures { refusal_of result ≡ scan (early_rows misordered (figures_with (at on.now) (stroke_of_position stroked tasks.now) n c tasks.now cores.now)) }
 {
     if all_sound(stroked, tasks, cores, on, n, c) {
         if misordered {
-            return Finding::Broken(Refusal::Order, 0);
+            return Err(Refusal::Order.at(0));
         }
         return bare_rules(stroked, tasks, cores, on, n, c);
     }
-    let found = task_rules(stroked, tasks, cores, on, n, c, misordered);
-    if let Finding::Broken(_, _) = found {
-        return found;
-    }
+    task_rules(stroked, tasks, cores, on, n, c, misordered)?;
     core_rules(stroked, tasks, cores, on, n, c)
 }

@@ -1,6 +1,6 @@
 // Rules 13 and 14: the chain and the load of each core.
 ghost use Rattle.std.specs.Prelude.{◌≡◌, true, ℕ, ◌+◌, ◌*◌, ◌<◌, ◌≤◌, min, length};
-ghost use Rattle.sheet.specs.Table.{scan, finding_of};
+ghost use Rattle.sheet.specs.Table.{scan, refusal_of};
 ghost use Rattle.sheet.specs.Records.{period_at, budget_at, factor_at, figures_with};
 ghost use Rattle.sheet.specs.Views.{stroke_of_position};
 ghost use Rattle.fit.specs.Lists.{at, Each};
@@ -10,15 +10,8 @@ ghost use Rattle.order.specs.Cores.{ByCore};
 ghost use Rattle.checker.specs.Rules.{fit_rows};
 ghost use Rattle.checker.specs.Steps.{judged, Sorted, InRange, first_over};
 
-use fit::Chain;
-use sheet::{Finding, Refusal};
-
-// What rules 13 and 14 say of a core: its chain is whole, and the load at some task is over one or not, or its chain is broken at a task.
-#[derive(Clone, Copy)]
-enum Judged {
-    Chained { over: bool },
-    Unchained(u8),
-}
+use fit::Break;
+use sheet::{Refusal, Rejection};
 
 // All tasks core by core, in priority order on each. Where the positions stand so already, they are taken as they stand.
 fn order_of(sorted: bool, tasks: &[u8], on: &[u8], n: u8) -> [u8; 64]
@@ -41,19 +34,16 @@ fn level_sum(load: u64, times: u32, e: u16, divisor: u32) -> u64
 }
 
 // What is said of a core that is over: a broken chain comes first.
-fn judge_over(tasks: &[u8], list: &[u8]) -> Judged
+fn judge_over(tasks: &[u8], list: &[u8]) -> Result<bool, Break>
     ensures { result ≡ judged (chain_break (factor_at tasks.now) 1 list.now) true }
 {
-    let chain = fit::chain_of(tasks, list);
-    match chain {
-        Chain::Broken(i) => Judged::Unchained(i),
-        Chain::Whole(_) => Judged::Chained { over: true },
-    }
+    fit::chain_of(tasks, list)?;
+    Ok(true)
 }
 
 // Rules 13 and 14 over a core's tasks in priority order, in one pass. `load` is that of the tasks passed at the factor `last` of the last of
 // them, `room` the least that one of them has to spare: before the first it is 2^40, above what any stroke takes.
-fn judge(stroked: bool, tasks: &[u8], list: &[u8], pivot: u16, divisor: u32) -> Judged
+fn judge(stroked: bool, tasks: &[u8], list: &[u8], pivot: u16, divisor: u32) -> Result<bool, Break>
     requires { Each (λ i. (10 * i + 10 ≤ length tasks.now) × (0 < factor_at tasks.now i)) list.now }
     ensures { result ≡ judged (chain_break (factor_at tasks.now) 1 list.now) (level_overloaded (budget_at tasks.now) (stroke_of_position stroked tasks.now) (factor_at tasks.now) pivot divisor list.now) }
 {
@@ -68,7 +58,7 @@ fn judge(stroked: bool, tasks: &[u8], list: &[u8], pivot: u16, divisor: u32) -> 
         let m = sheet::factor(record, 0);
         let times = m / last;
         if times * last != m {
-            return Judged::Unchained(task);
+            return Err(Break { task });
         }
         if room < fit::held(sheet::stroke(stroked, record, 0), divisor) {
             return judge_over(tasks, list);
@@ -84,7 +74,7 @@ fn judge(stroked: bool, tasks: &[u8], list: &[u8], pivot: u16, divisor: u32) -> 
         last = m;
         i += 1;
     }
-    Judged::Chained { over: false }
+    Ok(false)
 }
 
 // The first core that is over, of those before core k (`found`) and core k; 255 stands for none.
@@ -108,9 +98,9 @@ pub(crate) fn fit_rules(
     on: &[u8],
     n: u8,
     c: u8,
-) -> Finding
+) -> Result<(), Rejection>
     requires { (10 * n ≤ length tasks.now) × InRange (figures_with (at on.now) (stroke_of_position stroked tasks.now) n c tasks.now cores.now) × (sorted ≡ true → Sorted (figures_with (at on.now) (stroke_of_position stroked tasks.now) n c tasks.now cores.now)) }
-    ensures { finding_of result ≡ scan (fit_rows (figures_with (at on.now) (stroke_of_position stroked tasks.now) n c tasks.now cores.now)) }
+    ensures { refusal_of result ≡ scan (fit_rows (figures_with (at on.now) (stroke_of_position stroked tasks.now) n c tasks.now cores.now)) }
 {
     let list = order_of(sorted, tasks, on, n);
     let mut found = 255;
@@ -122,10 +112,10 @@ pub(crate) fn fit_rules(
         let divisor = sheet::divisor(cores, k);
         let judged = judge(stroked, tasks, &list[from..to], pivot, divisor);
         match judged {
-            Judged::Unchained(i) => {
-                return Finding::Broken(Refusal::Chain, i as u16);
+            Err(Break { task: i }) => {
+                return Err(Refusal::Chain.at(u16::from(i)));
             }
-            Judged::Chained { over } => {
+            Ok(over) => {
                 found = first_over(found, k, over);
                 from = to;
                 k += 1;
@@ -133,7 +123,7 @@ pub(crate) fn fit_rules(
         }
     }
     if found == 255 {
-        return Finding::Clear;
+        return Ok(());
     }
-    Finding::Broken(Refusal::Overload, 64 + (found as u16))
+    Err(Refusal::Overload.at(64 + (found as u16)))
 }

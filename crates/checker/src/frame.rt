@@ -1,12 +1,12 @@
 // Rules 1 to 6: the form of a sheet.
 ghost use Rattle.std.specs.Prelude.{◌≡◌, not, ◌||◌, ◌+◌, ◌*◌, length, ltb, eqb, [], ◌∷◌};
-ghost use Rattle.sheet.specs.Table.{◌at◌, scan, finding_of};
+ghost use Rattle.sheet.specs.Table.{◌at◌, scan, refusal_of};
 ghost use Rattle.sheet.specs.Records.{task_count, core_count};
 ghost use Rattle.fit.specs.Lists.{find};
 ghost use Rattle.checker.specs.Tests.{is_marked, bad_version, task_spares, core_spares, is_set};
 ghost use Rattle.checker.specs.Rules.{frame_rows, spare_rows, offset};
 
-use sheet::{Finding, Refusal};
+use sheet::{Refusal, Rejection};
 
 // Rules 1 to 5.
 
@@ -48,65 +48,65 @@ fn is_other_length(sheet: &[u8]) -> bool
     sheet.len() != 8 + 10 * (n as usize) + 8 * (c as usize)
 }
 
-pub(crate) fn framing(sheet: &[u8]) -> Finding
-    ensures { finding_of result ≡ scan (frame_rows sheet.now) }
+pub(crate) fn framing(sheet: &[u8]) -> Result<(), Rejection>
+    ensures { refusal_of result ≡ scan (frame_rows sheet.now) }
 {
     if is_stub(sheet) {
-        return Finding::Broken(Refusal::Stub, 0);
+        return Err(Refusal::Stub.at(0));
     }
     if is_unmarked(sheet) {
-        return Finding::Broken(Refusal::Mark, 0);
+        return Err(Refusal::Mark.at(0));
     }
     if is_other_version(sheet) {
-        return Finding::Broken(Refusal::Version, 0);
+        return Err(Refusal::Version.at(0));
     }
     if is_over_count(sheet) {
-        return Finding::Broken(Refusal::Count, 0);
+        return Err(Refusal::Count.at(0));
     }
     if is_other_length(sheet) {
-        return Finding::Broken(Refusal::Length, 0);
+        return Err(Refusal::Length.at(0));
     }
-    Finding::Clear
+    Ok(())
 }
 
 // Rule 6 in the task records and in the core records. `records` is the sheet's part from byte 8.
 
 // Byte 5 of each task record, in version 3 none.
-fn task_spares(records: &[u8], n: u8, stroked: bool) -> Finding
-    ensures { finding_of result ≡ scan (6 at offset (find (is_set records.now) (task_spares stroked 0 n)) ∷ []) }
+fn task_spares(records: &[u8], n: u8, stroked: bool) -> Result<(), Rejection>
+    ensures { refusal_of result ≡ scan (6 at offset (find (is_set records.now) (task_spares stroked 0 n)) ∷ []) }
 {
     if stroked {
-        return Finding::Clear;
+        return Ok(());
     }
     let mut at = 0;
     let mut i = 0;
     while i < n {
         if sheet::byte(records, at + 5) != 0 {
-            return Finding::Broken(Refusal::Spare, 8 + (at + 5) as u16);
+            return Err(Refusal::Spare.at(8 + (at + 5) as u16));
         }
         at += 10;
         i += 1;
     }
-    Finding::Clear
+    Ok(())
 }
 
 // Bytes 2 and 3 of each core record, in version 2 byte 3 alone.
-fn core_spares(records: &[u8], n: u8, c: u8, grouped: bool) -> Finding
-    ensures { finding_of result ≡ scan (6 at offset (find (is_set records.now) (core_spares grouped (10 * n) c)) ∷ []) }
+fn core_spares(records: &[u8], n: u8, c: u8, grouped: bool) -> Result<(), Rejection>
+    ensures { refusal_of result ≡ scan (6 at offset (find (is_set records.now) (core_spares grouped (10 * n) c)) ∷ []) }
 {
     let mut at = 10 * (n as usize);
     let mut k = 0;
     while k < c {
         if !grouped & (sheet::byte(records, at + 2) != 0) {
-            return Finding::Broken(Refusal::Spare, 8 + (at + 2) as u16);
+            return Err(Refusal::Spare.at(8 + (at + 2) as u16));
         }
         if sheet::byte(records, at + 3) != 0 {
-            return Finding::Broken(Refusal::Spare, 8 + (at + 3) as u16);
+            return Err(Refusal::Spare.at(8 + (at + 3) as u16));
         }
         at += 8;
         k += 1;
     }
-    Finding::Clear
+    Ok(())
 }
 
 pub(crate) fn spare_rules(
@@ -116,15 +116,12 @@ pub(crate) fn spare_rules(
     c: u8,
     grouped: bool,
     stroked: bool,
-) -> Finding
-    ensures { finding_of result ≡ scan (spare_rows grouped stroked n c sheet.now records.now) }
+) -> Result<(), Rejection>
+    ensures { refusal_of result ≡ scan (spare_rows grouped stroked n c sheet.now records.now) }
 {
     if sheet::byte(sheet, 7) != 0 {
-        return Finding::Broken(Refusal::Spare, 7);
+        return Err(Refusal::Spare.at(7));
     }
-    let found = task_spares(records, n, stroked);
-    if let Finding::Broken(_, _) = found {
-        return found;
-    }
+    task_spares(records, n, stroked)?;
     core_spares(records, n, c, grouped)
 }

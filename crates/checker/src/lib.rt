@@ -6,20 +6,20 @@ mod fits;
 mod frame;
 
 ghost use Rattle.std.specs.Prelude.{◌≡◌, ◌&&◌, ◌+◌, ◌*◌, ◌≤◌, length};
-ghost use Rattle.sheet.specs.Table.{scan, finding_of};
+ghost use Rattle.sheet.specs.Table.{scan, refusal_of};
 ghost use Rattle.sheet.specs.Records.{period_at, number_at, count_at};
 ghost use Rattle.fit.specs.Lists.{at};
 ghost use Rattle.views.specs.Order.{misordered};
 ghost use Rattle.checker.specs.Rules.{part_rows, rules};
-ghost use Rattle.checker.specs.Verdict.{verdict, outcome, outcome_of};
+ghost use Rattle.checker.specs.Verdict.{verdict, outcome_of};
 
-use sheet::{Finding, Refusal};
+use sheet::Rejection;
 
-// The checker's answer: the sheet's counts, or a refusal's word and place.
-#[derive(Clone, Copy)]
-pub enum Verdict {
-    Accepted { tasks: u8, cores: u8 },
-    Refused { word: Refusal, place: u16 },
+// The counts of a sheet.
+#[derive(Clone, Copy, Debug, PartialEq, Eq)]
+pub struct Counts {
+    pub tasks: u8,
+    pub cores: u8,
 }
 
 // Whether the records of a version 2 sheet are not in its order.
@@ -33,58 +33,39 @@ fn is_misordered(grouped: bool, tasks: &[u8], cores: &[u8], on: &[u8], n: u8, c:
 }
 
 // Rules 7 to 14, 23 and 25. `records` is the sheet's part from byte 8.
-fn record_rules(grouped: bool, stroked: bool, records: &[u8], n: u8, c: u8) -> Finding
+fn record_rules(grouped: bool, stroked: bool, records: &[u8], n: u8, c: u8) -> Result<(), Rejection>
     requires { (n ≤ 64) × (10 * n + 8 * c ≤ length records.now) }
-    ensures { finding_of result ≡ scan (part_rows grouped stroked n c records.now) }
+    ensures { refusal_of result ≡ scan (part_rows grouped stroked n c records.now) }
 {
     let at = 10 * (n as usize);
     let cores = &records[at..];
     let on = views::cores_of(grouped, records, cores, n, c);
     let misordered = is_misordered(grouped, records, cores, &on, n, c);
-    let found = early::early_rules(stroked, records, cores, &on, n, c, misordered);
-    if let Finding::Broken(_, _) = found {
-        return found;
-    }
+    early::early_rules(stroked, records, cores, &on, n, c, misordered)?;
     fits::fit_rules(grouped, stroked, records, cores, &on, n, c)
 }
 
 // Rules 1 to 14, 23 and 25.
-fn all_rules(sheet: &[u8]) -> Finding
-    ensures { finding_of result ≡ scan (rules sheet.now) }
+fn all_rules(sheet: &[u8]) -> Result<(), Rejection>
+    ensures { refusal_of result ≡ scan (rules sheet.now) }
 {
-    let found = frame::framing(sheet);
-    if let Finding::Broken(_, _) = found {
-        return found;
-    }
+    frame::framing(sheet)?;
     let n = sheet::byte(sheet, 5);
     let c = sheet::byte(sheet, 6);
     let grouped = sheet::is_grouped(sheet);
     let stroked = sheet::is_stroked(sheet);
     let records = &sheet[8..];
-    let found = frame::spare_rules(sheet, records, n, c, grouped, stroked);
-    if let Finding::Broken(_, _) = found {
-        return found;
-    }
+    frame::spare_rules(sheet, records, n, c, grouped, stroked)?;
     record_rules(grouped, stroked, records, n, c)
 }
 
-// What the rules found, as an answer.
-fn answer(found: Finding, n: u8, c: u8) -> Verdict
-    ensures { outcome_of result ≡ outcome (finding_of found) n c }
-{
-    match found {
-        Finding::Broken(word, place) => Verdict::Refused { word, place },
-        Finding::Clear => Verdict::Accepted { tasks: n, cores: c },
-    }
-}
-
 // Checks a sheet: any bytes get the answer of docs/SHEET.md, sections 4, 12 and 14.
-pub fn check(sheet: &[u8]) -> Verdict
+pub fn check(sheet: &[u8]) -> Result<Counts, Rejection>
     ensures { outcome_of result ≡ verdict sheet.now }
 {
-    answer(
-        all_rules(sheet),
-        sheet::byte(sheet, 5),
-        sheet::byte(sheet, 6),
-    )
+    all_rules(sheet)?;
+    Ok(Counts {
+        tasks: sheet::byte(sheet, 5),
+        cores: sheet::byte(sheet, 6),
+    })
 }

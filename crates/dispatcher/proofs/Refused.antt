@@ -3,7 +3,7 @@
 use Prim.Native.Nat.{ℕ}
 use mathlib.Core.Path.{◌≡◌, refl, sym, ap, ◌∙◌}
 use mathlib.Core.Bool.{Bool, true, false, cond}
-use mathlib.Core.Option.{Option, none, some}
+use Rattle.std.specs.Prelude.{Option, None, Some}
 use mathlib.Core.List.{List, [], ◌∷◌, map}
 use native.Mathlib.Omega.{arith}
 use lib.Dec.{ltb}
@@ -87,5 +87,5 @@ unfolding list_answer list_state
 list_refused_idle l n p a = go (scan (list_rows 0 l)) a
   where
     go : (o : Option Refused) → list_answer o ≡ refused n p → Taskless (list_state o l)
-    go none x = absurd (let z : ◌≡◌ {A = ℕ} 0 1 = cc in omega arith)
-    go (some r) x = taskless
+    go None x = absurd (let z : ◌≡◌ {A = ℕ} 0 1 = cc in omega arith)
+    go (Some r) x = taskless

@@ -3,7 +3,7 @@
 -- Assumes nothing.
 use Prim.Native.Nat.{ℕ, ◌-◌, ◌*◌, ◌/◌, ◌≤◌, ◌<◌}
 use mathlib.Core.Path.{◌≡◌, sym, ap, subst, subst₂, ◌∙◌, refl}
-use mathlib.Core.Option.{none, Option, some}
+use Rattle.std.specs.Prelude.{None, Option, Some}
 use mathlib.Core.List.{List, []}
 use native.Mathlib.Omega.{arith}
 use lib.ListN.{length, take, drop, length-append, length-replicate, length-drop}
@@ -178,7 +178,7 @@ module _ (l : List ℕ) (f : Finding) (e : finding_of f ≡ scan (list_rows 0 l)
       record { answer = rw (q, ← o); core = rw (q, ← o) y }
 
   module _ (x : f ≡ Clear) where
-    clear : none ≡ scan (list_rows 0 l)
+    clear : None ≡ scan (list_rows 0 l)
     clear = sym (ap finding_of x) ∙ e
 
     pub list_few : length l / 4 ≤ 64
@@ -235,7 +235,7 @@ unfolding list_answer list_state order_by
 list_fresh l a = go (scan (list_rows 0 l)) refl a
   where
     go : (o : Option Refused) → scan (list_rows 0 l) ≡ o → list_answer o ≡ accepted → FreshCore (list_state o l)
-    go none e x =
+    go None e x =
         let h = listed 0 l (sym e) in
         let m = order_members (job_period l) (λ i. 0) 0 (job_count l) in
         fresh_core (job_period l) (job_budget l) (λ i. 1) _
@@ -246,4 +246,4 @@ list_fresh l a = go (scan (list_rows 0 l)) refl a
         (each_of _ (λ i q. h.budget i q.0) m)
         (each_of _ (λ i q. (omega arith, (h.budget i q.0).0)) m)
         (order_rising (job_period l) (λ i. 0) 0 (job_count l)))
-    go (some r) e x = absurd (let z : ◌≡◌ {A = ℕ} 0 1 = cc in omega arith)
+    go (Some r) e x = absurd (let z : ◌≡◌ {A = ℕ} 0 1 = cc in omega arith)

@@ -1,6 +1,6 @@
 -- The two starts, from a sheet and from a job list (docs/SHEET.md, sections 6 and 14). A refused start hands back the state without tasks.
 use Rattle.std.specs.Prelude.{ℕ, ◌-◌, ◌≡◌, cond, List, [], ◌++◌, map, length, replicate, ltb}
-use Rattle.std.proofs.Math.Option.{Option, none, some}
+use Rattle.std.specs.Prelude.{Option, None, Some}
 use Rattle.sheet.specs.Table.{Refused, scan}
 use Rattle.sheet.specs.Views.{figures}
 use Rattle.fit.specs.declared.By.TheVariants.{Period}
@@ -51,14 +51,14 @@ pub record SheetStart (s : List ℕ) (k : ℕ) (r : Step) : Type 0 where
 
 -- what a start from a job list answers: the refusal of the list (5, 4, 7, 8), if any
 unfoldable pub list_answer : Option Refused → Answer
-list_answer none = accepted
-list_answer (some r) = refused r.number r.place
+list_answer None = accepted
+list_answer (Some r) = refused r.number r.place
 
 -- the state that is handed back: of the listed tasks in priority order, numbered by their places in the list, with strokes of one tick,
 -- where the start is accepted, else without tasks
 unfoldable pub list_state : Option Refused → List ℕ → Core
-list_state none l = state_of (fresh_tasks (job_period l) (job_budget l) (λ i. 1) (order_by Period (job_period l) (job_count l)))
-list_state (some r) l = state_of []
+list_state None l = state_of (fresh_tasks (job_period l) (job_budget l) (λ i. 1) (order_by Period (job_period l) (job_count l)))
+list_state (Some r) l = state_of []
 
 -- what a start from a job list promises; there is no core limit, for which 0 stands
 pub record ListStart (l : List ℕ) (r : Step) : Type 0 where

@@ -13,10 +13,10 @@ ghost use Rattle.dispatcher.specs.Starts.{fresh_task, fresh_tasks, state_of, She
 ghost use Rattle.dispatcher.specs.OnTime.{Timely};
 ghost use Rattle.dispatcher.specs.Steps.{fresh_by};
 
-use checker::Verdict;
+use checker::Counts;
 use fit::{By, Order};
-use sheet::{Finding, Refusal};
-use state::{Answer, Core, Step};
+use sheet::{Refusal, Rejection};
+use state::{Core, Reply, Step};
 use timing::Task;
 
 // A task whose age is its period, with nothing left.
@@ -69,14 +69,14 @@ fn fresh_at(records: &[u8], size: u8, j: u8, stroke: u8, number: u8) -> Task
 // The fresh state of the records of an order, each of this size; `grouped` says that they are those of a version 2 sheet, `stroked` of a
 // version 3 sheet.
 fn fresh_state(grouped: bool, stroked: bool, records: &[u8], size: u8, order: Order) -> Core
-    requires { (order.count ≤ 64) × (length order.tasks ≡ 64) }
-    ensures { result ≡ state_of (fresh_by (λ i. word records.now (size * i)) (λ i. word records.now (size * i + 2)) (stroke_of_position stroked records.now) (number_of_position grouped records.now) (take order.count order.tasks)) }
+    requires { length order.items ≤ 64 }
+    ensures { result ≡ state_of (fresh_by (λ i. word records.now (size * i)) (λ i. word records.now (size * i + 2)) (stroke_of_position stroked records.now) (number_of_position grouped records.now) order.items) }
 {
-    let count = order.count;
+    let count = order.len();
     let mut core = empty();
     let mut i = 0;
     while i < count {
-        let j = order.tasks[i];
+        let j = order.as_slice()[i];
         let stroke = sheet::stroke(stroked, records, j);
         let number = views::number_of(grouped, records, j);
         core.tasks[i] = fresh_at(records, size, j, stroke, number);
@@ -116,17 +116,16 @@ pub fn start_sheet(sheet: &[u8], core: u64) -> Step
     ensures sheet_start { SheetStart sheet.now core result }
     ensures on_time { Timely sheet.now core result }
 {
-    let verdict = checker::check(sheet);
-    match verdict {
-        Verdict::Refused { word, place } => state::refuse(empty(), word, place),
-        Verdict::Accepted { tasks, cores } => {
+    match checker::check(sheet) {
+        Err(r) => state::refuse(empty(), r.word, r.place),
+        Ok(Counts { tasks, cores }) => {
             if (cores as u64) <= core {
                 return state::refuse(empty(), Refusal::Core, 0);
             }
             let grouped = sheet::is_grouped(sheet);
             let stroked = sheet::is_stroked(sheet);
             Step {
-                answer: Answer::Accepted,
+                answer: Ok(Reply::Accepted),
                 core: of_core(grouped, stroked, &sheet[8..], tasks, cores, core as u8),
             }
         }
@@ -137,13 +136,12 @@ pub fn start_sheet(sheet: &[u8], core: u64) -> Step
 pub fn start_list(list: &[u8]) -> Step
     ensures { ListStart list.now result }
 {
-    let finding = jobs::check_list(list, 0);
-    match finding {
-        Finding::Broken(word, place) => state::refuse(empty(), word, place),
-        Finding::Clear => {
+    match jobs::check_list(list, 0) {
+        Err(r) => state::refuse(empty(), r.word, r.place),
+        Ok(()) => {
             let n = list.len() / 4;
             Step {
-                answer: Answer::Accepted,
+                answer: Ok(Reply::Accepted),
                 core: of_list(list, n as u8),
             }
         }

@@ -1,7 +1,7 @@
 -- Trials and figures of some periods, computed.
 -- Assumes nothing.
 use mathlib.Core.Path.{◌≡◌, refl}
-use mathlib.Core.Option.{some}
+use Rattle.std.specs.Prelude.{Some}
 use mathlib.Core.List.{[], ◌∷◌, map}
 use Rattle.fit.specs.Lists.{numbers, sum, select}
 use Rattle.fit.specs.Rounding.{ceiling}
@@ -21,6 +21,6 @@ trials_computed = refl
 
 -- With a budget of 0 the skip shows: these pass by DCT with the first pivot. Sr on 3 with the second, factors 1, 59,049 and 177,147, would
 -- pass before it.
-pub skip_seen : first_passing (1 ∷ 20000 ∷ 60000 ∷ []) (0 ∷ 10000 ∷ 30000 ∷ []) ≡ some (record { Q = 1; D = 1; factors = 1 ∷ 20000 ∷ 60000 ∷ [] })
+pub skip_seen : first_passing (1 ∷ 20000 ∷ 60000 ∷ []) (0 ∷ 10000 ∷ 30000 ∷ []) ≡ Some (record { Q = 1; D = 1; factors = 1 ∷ 20000 ∷ 60000 ∷ [] })
 unfolding numbers sum select ceiling last_factor load overloaded least least_power largest largest_power sr down downs up ups dct passes first each_pivot at_most in_range trials sorted_periods task_set first_passing
 skip_seen = refl

@@ -4,7 +4,8 @@ use Prim.Native.Nat.{ℕ, zero, suc, ◌+◌, ◌*◌, ◌/◌, ◌≤◌, ◌<�
 use mathlib.Core.Path.{◌≡◌, refl, sym, ap, ap₂, subst, ◌∙◌}
 use mathlib.Core.Logic.{⊎_elim}
 use mathlib.Core.Bool.{Bool, true, false, cond, ◌&&◌, true≢false, false≢true}
-use mathlib.Core.Option.{Option, none, some, some-injective, none-ne-some}
+use Rattle.std.specs.Prelude.{Option, None, Some}
+use Rattle.sheet.proofs.Options.{some-injective, none-ne-some}
 use mathlib.Core.List.{List, [], ◌∷◌, map}
 use native.Mathlib.Nat.{zero-add, mul-one, le_refl}
 use native.Mathlib.Omega.{arith}
@@ -45,12 +46,12 @@ overloaded_by_place e M Q D l =
     own j h = ap₂ (λ s t. s * D * (last_factor M 1 l / t)) (same e j h) (same M j h)
 
 -- the first that passes is one of the list, and passes
-pub first_of : (P : Acceleration → Type 0) (es : List ℕ) (l : List Acceleration) (a : Acceleration) → Each P l → first es l ≡ some a → P a × (passes es a ≡ true)
+pub first_of : (P : Acceleration → Type 0) (es : List ℕ) (l : List Acceleration) (a : Acceleration) → Each P l → first es l ≡ Some a → P a × (passes es a ≡ true)
 unfolding Each first
 first_of P es [] a h e = absurd (none-ne-some a e)
 first_of P es (x ∷ l) a h e = by (passes es x) refl e (first_of P es l a h.1)
   where
-    by : (t : Bool) → passes es x ≡ t → cond t (some x) (first es l) ≡ some a → (first es l ≡ some a → P a × (passes es a ≡ true)) → P a × (passes es a ≡ true)
+    by : (t : Bool) → passes es x ≡ t → cond t (Some x) (first es l) ≡ Some a → (first es l ≡ Some a → P a × (passes es a ≡ true)) → P a × (passes es a ≡ true)
     by true q g later = let same : x ≡ a = some-injective x a g in (subst P same h.0, ap (passes es) (sym same) ∙ q)
     by false q g later = later g
 
@@ -98,11 +99,11 @@ trials_good ps r =
     on_two a s = (sound_wider 2 3 ps a (omega arith) s, two_in_range ps a r s)
 
 -- so the first that passes is
-pub passing_sound : (ps es : List ℕ) (a : Acceleration) → first_passing ps es ≡ some a → SortedPeriods 1 ps × Sound 3 ps a × (in_range a ≡ true) × (passes es a ≡ true)
+pub passing_sound : (ps es : List ℕ) (a : Acceleration) → first_passing ps es ≡ Some a → SortedPeriods 1 ps × Sound 3 ps a × (in_range a ≡ true) × (passes es a ≡ true)
 unfolding task_set first_passing
 passing_sound ps es a h = by (task_set ps es) refl h
   where
-    by : (t : Bool) → task_set ps es ≡ t → cond t (first es (trials ps)) none ≡ some a → SortedPeriods 1 ps × Sound 3 ps a × (in_range a ≡ true) × (passes es a ≡ true)
+    by : (t : Bool) → task_set ps es ≡ t → cond t (first es (trials ps)) None ≡ Some a → SortedPeriods 1 ps × Sound 3 ps a × (in_range a ≡ true) × (passes es a ≡ true)
     by true q g =
         let r : SortedPeriods 1 ps = sorted_test 1 ps (both (leb (length ps) 64 && eqb (length ps) (length es)) (sorted_periods 1 ps) q).1 in
         let ((sound, range), pass) = first_of (Good ps) es (trials ps) a (trials_good ps r) g in
@@ -110,7 +111,7 @@ passing_sound ps es a h = by (task_set ps es) refl h
     by false q g = absurd (none-ne-some a g)
 
 -- tasks l with periods p and budgets e, written with the first figures that pass, M the factor of each, keep rules 11 to 14
-pub passing_accepted : (p e M : ℕ → ℕ) (l : List ℕ) (a : Acceleration) → first_passing (map p l) (map e l) ≡ some a → map M l ≡ a.factors → Accepted p e M a.Q a.D l
+pub passing_accepted : (p e M : ℕ → ℕ) (l : List ℕ) (a : Acceleration) → first_passing (map p l) (map e l) ≡ Some a → map M l ≡ a.factors → Accepted p e M a.Q a.D l
 unfolding stretched passes
 passing_accepted p e M l a h m =
     let (r, s, range, pass) = passing_sound (map p l) (map e l) a h in
@@ -148,7 +149,7 @@ module _ (p e : ℕ → ℕ) (l : List ℕ) (few : length l ≤ 64) (order : Eac
   passing_tried = rw tasks_are_set
 
 -- a task alone passes
-pub alone : (p e : ℕ) → 1 ≤ p → p ≤ 60000 → e ≤ p → first_passing (p ∷ []) (e ∷ []) ≡ some (record { Q = p; D = 1; factors = 1 ∷ [] })
+pub alone : (p e : ℕ) → 1 ≤ p → p ≤ 60000 → e ≤ p → first_passing (p ∷ []) (e ∷ []) ≡ Some (record { Q = p; D = 1; factors = 1 ∷ [] })
 unfolding numbers sum last_factor load overloaded sr passes first each_pivot trials sorted_periods task_set first_passing
 alone p e pos high fits =
     let r : SortedPeriods 1 (p ∷ []) = sorted_test 1 (p ∷ []) (rw (le-leb 1 p pos, le-leb p 60000 high)) in
@@ -158,12 +159,12 @@ alone p e pos high fits =
     rw (le-leb 1 p pos, le-leb p 60000 high, factor, divisor, light)
 
 -- the code's answer that a set passes comes with the figures
-pub outcome_passes : (o : Outcome) (x : Option Acceleration) → o ≡ outcome x → o.passes ≡ true → (a : Acceleration) × (x ≡ some a) × (o.figures ≡ written a)
+pub outcome_passes : (o : Outcome) (x : Option Acceleration) → o ≡ outcome x → o.passes ≡ true → (a : Acceleration) × (x ≡ Some a) × (o.figures ≡ written a)
 unfolding outcome
-outcome_passes o none e h = absurd (false≢true (sym (ap (λ t. t.passes) e) ∙ h))
-outcome_passes o (some a) e h = (a, refl, ap (λ t. t.figures) e)
+outcome_passes o None e h = absurd (false≢true (sym (ap (λ t. t.passes) e) ∙ h))
+outcome_passes o (Some a) e h = (a, refl, ap (λ t. t.figures) e)
 
-pub outcome_fails : (o : Outcome) (x : Option Acceleration) → o ≡ outcome x → o.passes ≡ false → x ≡ none
+pub outcome_fails : (o : Outcome) (x : Option Acceleration) → o ≡ outcome x → o.passes ≡ false → x ≡ None
 unfolding outcome
-outcome_fails o none e h = refl
-outcome_fails o (some a) e h = absurd (true≢false (sym (ap (λ t. t.passes) e) ∙ h))
+outcome_fails o None e h = refl
+outcome_fails o (Some a) e h = absurd (true≢false (sym (ap (λ t. t.passes) e) ∙ h))

@@ -3,7 +3,8 @@
 use Prim.Native.Nat.{ℕ, suc, ◌+◌, ◌-◌, ◌≤◌, ◌<◌}
 use mathlib.Core.Path.{◌≡◌, refl, sym, ap, fun_ext, ◌∙◌}
 use mathlib.Core.Bool.{Bool, true, false, cond, ◌&&◌, and-false}
-use mathlib.Core.Option.{none, some, none-ne-some, some-ne-none}
+use Rattle.std.specs.Prelude.{None, Some}
+use Rattle.sheet.proofs.Options.{none-ne-some, some-ne-none}
 use mathlib.Core.List.{List, [], ◌∷◌, ◌++◌, map}
 use native.Mathlib.Nat.{sub-zero, le_of_lt}
 use native.Mathlib.Numerals.{add-one}
@@ -84,7 +85,7 @@ module _ (ps es : List ℕ) (i : ℕ) (y : Ready ps i) (n : length ps ≡ length
       let a : Acceleration = dct ps i in
       rw (← n, e)
       (record {
-        some = omega (arith, y.inside);
+        Some = omega (arith, y.inside);
         few = y.size;
         divisor = le_of_lt (divisor_bound 2 ps a whole);
         factors = λ j q. rw (at_padded a.factors j) ((factors_at a.Q a.D 1 ps a.factors whole.factors j q).1, le_of_lt (factors_bound 2 ps a (periods ps i y) whole j q));
@@ -124,17 +125,17 @@ unfolding each_pivot
 round_start k ps es = record { left = rw (sub-zero (length ps)) }
 
 -- the first of those in range is a feasible trial, or a later one
-first_select : (es : List ℕ) (a : Acceleration) (l : List Acceleration) → first es (select in_range (a ∷ l)) ≡ cond (feasible es a) (some a) (first es (select in_range l))
+first_select : (es : List ℕ) (a : Acceleration) (l : List Acceleration) → first es (select in_range (a ∷ l)) ≡ cond (feasible es a) (Some a) (first es (select in_range l))
 unfolding first select feasible
 first_select es a l = by (in_range a)
   where
-    by : (t : Bool) → first es (cond t (a ∷ select in_range l) (select in_range l)) ≡ cond (t && passes es a) (some a) (first es (select in_range l))
+    by : (t : Bool) → first es (cond t (a ∷ select in_range l) (select in_range l)) ≡ cond (t && passes es a) (Some a) (first es (select in_range l))
     by true = refl
     by false = refl
 
 module _ (k : Kind) (ps es : List ℕ) (i : ℕ) (s : RoundLoop k ps es i) where
   module _ (r : Bool) (h : i < length ps) (q : r ≡ feasible es (construction k ps i)) where
-    step : first es (select in_range (each_pivot (construction k) ps)) ≡ cond r (some (construction k ps i)) (first es (select in_range (map (construction k ps) (numbers (suc i) (length ps - suc i)))))
+    step : first es (select in_range (each_pivot (construction k) ps)) ≡ cond r (Some (construction k ps i)) (first es (select in_range (map (construction k ps) (numbers (suc i) (length ps - suc i)))))
     unfolding numbers
     step =
         let more : length ps - i ≡ suc (length ps - suc i) = omega arith in
@@ -147,28 +148,28 @@ module _ (k : Kind) (ps es : List ℕ) (i : ℕ) (s : RoundLoop k ps es i) where
     pub round_turn : r ≡ false → RoundLoop k ps es (i + 1)
     round_turn t = record { left = step ∙ rw (add-one i, t) }
 
-  pub round_end : (o : Outcome) → length ps ≤ i → o ≡ outcome none → o ≡ outcome (first es (select in_range (each_pivot (construction k) ps)))
+  pub round_end : (o : Outcome) → length ps ≤ i → o ≡ outcome None → o ≡ outcome (first es (select in_range (each_pivot (construction k) ps)))
   unfolding first numbers select
   round_end o h e =
       let over : length ps - i ≡ 0 = omega arith in
       e ∙ rw (s.left, over)
 
 -- the first of two lists together
-first_some : (es : List ℕ) (xs ys : List Acceleration) (a : Acceleration) → first es xs ≡ some a → first es (xs ++ ys) ≡ some a
+first_some : (es : List ℕ) (xs ys : List Acceleration) (a : Acceleration) → first es xs ≡ Some a → first es (xs ++ ys) ≡ Some a
 unfolding first
 first_some es [] ys a h = absurd (none-ne-some a h)
 first_some es (x ∷ xs) ys a h = by (passes es x) h (first_some es xs ys a)
   where
-    by : (t : Bool) → cond t (some x) (first es xs) ≡ some a → (first es xs ≡ some a → first es (xs ++ ys) ≡ some a) → cond t (some x) (first es (xs ++ ys)) ≡ some a
+    by : (t : Bool) → cond t (Some x) (first es xs) ≡ Some a → (first es xs ≡ Some a → first es (xs ++ ys) ≡ Some a) → cond t (Some x) (first es (xs ++ ys)) ≡ Some a
     by true e later = e
     by false e later = later e
 
-first_none : (es : List ℕ) (xs ys : List Acceleration) → first es xs ≡ none → first es (xs ++ ys) ≡ first es ys
+first_none : (es : List ℕ) (xs ys : List Acceleration) → first es xs ≡ None → first es (xs ++ ys) ≡ first es ys
 unfolding first
 first_none es [] ys h = refl
 first_none es (x ∷ xs) ys h = by (passes es x) h (first_none es xs ys)
   where
-    by : (t : Bool) → cond t (some x) (first es xs) ≡ none → (first es xs ≡ none → first es (xs ++ ys) ≡ first es ys) → cond t (some x) (first es (xs ++ ys)) ≡ first es ys
+    by : (t : Bool) → cond t (Some x) (first es xs) ≡ None → (first es xs ≡ None → first es (xs ++ ys) ≡ first es ys) → cond t (Some x) (first es (xs ++ ys)) ≡ first es ys
     by true e later = absurd (some-ne-none x e)
     by false e later = later e
 
@@ -206,6 +207,6 @@ module _ (ps es : List ℕ) (set : Bool) (test : set ≡ task_set ps es) where
           let third : r ≡ outcome (first es (each_pivot dct ps)) = y ∙ ap (λ t. outcome (first es t)) (select_all in_range _ (all_dct ps es (set_holds holds))) in
           rw (← test, holds) (later es (each_pivot (sr 2) ps) _ o two r failed (later es (select in_range (each_pivot (sr 3) ps)) (each_pivot dct ps) u x r h third))
 
-  pub by_none : (o : Outcome) → set ≡ false → o ≡ outcome none → o ≡ outcome (first_passing ps es)
+  pub by_none : (o : Outcome) → set ≡ false → o ≡ outcome None → o ≡ outcome (first_passing ps es)
   unfolding first_passing
   by_none o h e = e ∙ rw (← test, h)

@@ -3,7 +3,7 @@
 use Prim.Native.Nat.{ℕ, suc, ◌+◌, ◌-◌, ◌*◌, ◌/◌, ◌^◌, ◌≤◌, ◌<◌}
 use mathlib.Core.Path.{◌≡◌, refl, sym, ap, ◌∙◌}
 use mathlib.Core.Bool.{Bool, true, false, cond, true≢false}
-use mathlib.Core.Option.{some}
+use Rattle.std.specs.Prelude.{Some}
 use mathlib.Core.List.{List, [], ◌∷◌, ◌++◌}
 use native.Mathlib.Nat.{mul_comm, mul-le-mul, mul-le-mul_right, mul-lt-mul_of_pos_left, le_of_mul-le-mul_left, le_trans, div-one}
 use native.Mathlib.Decide.{dec_le}
@@ -104,15 +104,15 @@ module _ (es : List ℕ) where
   first_rest : (xs ys zs : List Acceleration) → first es ys ≡ first es zs → first es (xs ++ ys) ≡ first es (xs ++ zs)
   unfolding first
   first_rest [] ys zs h = h
-  first_rest (x ∷ xs) ys zs h = ap (λ t. cond (passes es x) (some x) t) (first_rest xs ys zs h)
+  first_rest (x ∷ xs) ys zs h = ap (λ t. cond (passes es x) (Some x) t) (first_rest xs ys zs h)
 
   first_all : (l ys : List Acceleration) → Each (λ a. in_range a ≡ false → passes es a ≡ false) l → first es (select in_range l ++ ys) ≡ first es (l ++ ys)
   unfolding Each first select
   first_all [] ys h = refl
   first_all (x ∷ l) ys h = by (in_range x) refl (first_all l ys h.1)
     where
-      by : (t : Bool) → in_range x ≡ t → first es (select in_range l ++ ys) ≡ first es (l ++ ys) → first es (cond t (x ∷ select in_range l) (select in_range l) ++ ys) ≡ cond (passes es x) (some x) (first es (l ++ ys))
-      by true e g = ap (λ t. cond (passes es x) (some x) t) g
+      by : (t : Bool) → in_range x ≡ t → first es (select in_range l ++ ys) ≡ first es (l ++ ys) → first es (cond t (x ∷ select in_range l) (select in_range l) ++ ys) ≡ cond (passes es x) (Some x) (first es (l ++ ys))
+      by true e g = ap (λ t. cond (passes es x) (Some x) t) g
       by false e g = rw (h.0 e) g
 
 -- with budgets of at least 1 the skip changes no answer

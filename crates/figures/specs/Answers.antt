@@ -1,16 +1,14 @@
 -- The figures of a core as the code hands them out (docs/SHEET.md, section 5).
-use Rattle.std.specs.Prelude.{true, false}
-use Rattle.std.proofs.Math.Option.{Option, none, some}
+use Rattle.std.specs.Prelude.{Option}
+use Rattle.std.specs.Option.{option_map}
 use Rattle.fit.specs.Lists.{padded}
 use Rattle.figures.specs.declared.CoreFigures.{CoreFigures}
-use Rattle.figures.specs.declared.Outcome.{Outcome}
-use Rattle.figures.specs.Constructions.{Acceleration, no_figures}
+use Rattle.figures.specs.Constructions.{Acceleration}
 
 -- pivot and divisor, and the factors in priority order with zeros past them
 unfoldable pub written : Acceleration → CoreFigures
 written a = record { pivot = a.Q; divisor = a.D; factors = padded a.factors }
 
--- the figures, or zeros where nothing passes
-unfoldable pub outcome : Option Acceleration → Outcome
-outcome none = record { passes = false; figures = written no_figures }
-outcome (some a) = record { passes = true; figures = written a }
+-- the figures, if something passes
+abbrev pub outcome : Option Acceleration → Option CoreFigures
+outcome = option_map written

@@ -1,6 +1,6 @@
 -- The load test, the order in which constructions are tried, and the first that passes (docs/SHEET.md, section 5).
 use Rattle.std.specs.Prelude.{ℕ, Bool, true, cond, not, ◌&&◌, List, [], ◌∷◌, ◌++◌, map, length, leb, eqb}
-use Rattle.std.proofs.Math.Option.{Option, none, some}
+use Rattle.std.specs.Prelude.{Option, None, Some}
 use Rattle.fit.specs.Lists.{numbers, select, at}
 use Rattle.fit.specs.Fits.{overloaded}
 use Rattle.figures.specs.Constructions.{Acceleration, sr, dct}
@@ -11,8 +11,8 @@ passes es a = not (overloaded (at es) (at a.factors) a.Q a.D (numbers 0 (length 
 
 -- the first of a list of accelerations that passes
 unfoldable pub first : List ℕ → List Acceleration → Option Acceleration
-first es [] = none
-first es (a ∷ l) = let later = first es l in cond (passes es a) (some a) later
+first es [] = None
+first es (a ∷ l) = let later = first es l in cond (passes es a) (Some a) later
 
 -- a construction with each task as pivot by priority
 unfoldable pub each_pivot : (List ℕ → ℕ → Acceleration) → List ℕ → List Acceleration
@@ -43,4 +43,4 @@ task_set ps es = leb (length ps) 64 && eqb (length ps) (length es) && sorted_per
 
 -- The figures of the first trial that passes; a set passes if there is one. Anything but a set of tasks does not pass.
 unfoldable pub first_passing : List ℕ → List ℕ → Option Acceleration
-first_passing ps es = cond (task_set ps es) (first es (trials ps)) none
+first_passing ps es = cond (task_set ps es) (first es (trials ps)) None

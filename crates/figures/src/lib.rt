@@ -3,7 +3,6 @@
 #![tactic(auto)]
 
 ghost use Rattle.std.specs.Prelude.{◌≡◌, ℕ, ◌+◌, ◌*◌, ◌/◌, ◌<◌, ◌≤◌, true, map, length, take};
-ghost use Rattle.std.proofs.Math.Option.{none as noneOf};
 ghost use Rattle.fit.specs.Lists.{select, at, padded};
 ghost use Rattle.fit.specs.Rounding.{ceiling};
 ghost use Rattle.figures.specs.Constructions.{Power, least_power, largest_power, sr as srOf, down, downs, dct as dctOf};
@@ -17,13 +16,6 @@ pub struct CoreFigures {
     pub pivot: u16,
     pub divisor: u32,
     pub factors: [u32; 64],
-}
-
-// Whether a construction passes, and the figures of the first that does; zeros where none does.
-#[derive(Clone, Copy)]
-pub struct Outcome {
-    pub passes: bool,
-    pub figures: CoreFigures,
 }
 
 #[derive(Clone, Copy)]
@@ -260,35 +252,19 @@ fn construct(kind: Kind, periods: &[u16], pivot: usize) -> CoreFigures
     }
 }
 
-fn nothing() -> Outcome
-    ensures { result ≡ outcome noneOf }
-{
-    Outcome {
-        passes: false,
-        figures: CoreFigures {
-            pivot: 0,
-            divisor: 0,
-            factors: [0u32; 64],
-        },
-    }
-}
-
 // The first construction of a kind that is in range and passes, with each task as pivot by priority.
-fn round(kind: Kind, periods: &[u16], budgets: &[u16]) -> Outcome
+fn round(kind: Kind, periods: &[u16], budgets: &[u16]) -> Option<CoreFigures>
     requires { task_set periods.now budgets.now ≡ true }
     ensures { result ≡ outcome (first budgets.now (select in_range (each_pivot (construction kind) periods.now))) }
 {
     let mut i = 0;
     while i < periods.len() {
         if trial_feasible(kind, periods, budgets, i) {
-            return Outcome {
-                passes: true,
-                figures: construct(kind, periods, i),
-            };
+            return Some(construct(kind, periods, i));
         }
         i += 1;
     }
-    nothing()
+    None
 }
 
 fn is_sorted(periods: &[u16]) -> bool
@@ -323,19 +299,19 @@ fn is_task_set(periods: &[u16], budgets: &[u16]) -> bool
 }
 
 // The figures of a core with these tasks, if a construction passes. Anything but a set of tasks (`task_set`) does not pass.
-pub fn first_passing(periods: &[u16], budgets: &[u16]) -> Outcome
+pub fn first_passing(periods: &[u16], budgets: &[u16]) -> Option<CoreFigures>
     ensures { result ≡ outcome (first_passing periods.now budgets.now) }
 {
     if is_task_set(periods, budgets) {
         let on_two = round(Kind::Sr2, periods, budgets);
-        if on_two.passes {
+        if on_two.is_some() {
             return on_two;
         }
         let on_three = round(Kind::Sr3, periods, budgets);
-        if on_three.passes {
+        if on_three.is_some() {
             return on_three;
         }
         return round(Kind::Dct, periods, budgets);
     }
-    nothing()
+    None
 }

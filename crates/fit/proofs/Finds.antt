@@ -3,7 +3,8 @@
 use Prim.Native.Nat.{ℕ, zero, suc, ◌+◌, ◌-◌, ◌≤◌, ◌<◌, zero-le, suc-le-suc}
 use mathlib.Core.Path.{◌≡◌, refl, sym, ap, ◌∙◌}
 use mathlib.Core.Bool.{Bool, true, false, cond}
-use mathlib.Core.Option.{Option, none, some, some-ne-none, none-ne-some, some-injective}
+use Rattle.std.specs.Prelude.{Option, None, Some}
+use Rattle.sheet.proofs.Options.{some-ne-none, none-ne-some, some-injective}
 use mathlib.Core.List.{List, [], ◌∷◌, ◌++◌, map}
 use native.Mathlib.Nat.{sub-zero, zero-add, suc-add, add_assoc}
 use native.Mathlib.Decide.{ℕ_discrete}
@@ -29,7 +30,7 @@ pub find_start : (q : ℕ → Bool) (n : ℕ) → Left q n 0
 find_start q n = record { rest = rw (sub-zero n) }
 
 module _ (q : ℕ → Bool) (n i : ℕ) (r : Bool) (h : i < n) (l : Left q n i) (t : r ≡ q i) where
-  pub find_hit : r ≡ true → some i ≡ find q (numbers 0 n)
+  pub find_hit : r ≡ true → Some i ≡ find q (numbers 0 n)
   unfolding find
   find_hit e = sym (l.rest ∙ rw (front n i h, ← t, e))
 
@@ -37,58 +38,58 @@ module _ (q : ℕ → Bool) (n i : ℕ) (r : Bool) (h : i < n) (l : Left q n i) 
   unfolding find
   find_turn e = record { rest = l.rest ∙ rw (front n i h, ← t, e) }
 
-pub find_end : (q : ℕ → Bool) (n i : ℕ) → n ≤ i → Left q n i → none ≡ find q (numbers 0 n)
+pub find_end : (q : ℕ → Bool) (n i : ℕ) → n ≤ i → Left q n i → None ≡ find q (numbers 0 n)
 unfolding find numbers
 find_end q n i h l =
     let e : n - i ≡ 0 = omega arith in
     sym (l.rest ∙ rw e)
 
 -- no answer is found exactly where there is none
-pub find_some_none : (g : ℕ → Option ℕ) (a n : ℕ) → find_some g (numbers a n) ≡ none → (i : ℕ) → a ≤ i → i < a + n → g i ≡ none
+pub find_some_none : (g : ℕ → Option ℕ) (a n : ℕ) → find_some g (numbers a n) ≡ None → (i : ℕ) → a ≤ i → i < a + n → g i ≡ None
 unfolding find_some numbers
 find_some_none g a zero e i h h' = absurd (omega arith)
 find_some_none g a (suc n) e i h h' = by (g a) refl (ℕ_discrete i a) (find_some_none g (suc a) n)
   where
-    by : (o : Option ℕ) → g a ≡ o → Dec (i ≡ a) → (find_some g (numbers (suc a) n) ≡ none → (j : ℕ) → suc a ≤ j → j < suc a + n → g j ≡ none) → g i ≡ none
-    by (some x) t d rec = absurd (some-ne-none x (rw t at e))
-    by none t (yes z) rec = rw z t
-    by none t (no z) rec = rec (rw t at e) i (lt_of_le-ne h (λ x. z (sym x))) (omega arith)
+    by : (o : Option ℕ) → g a ≡ o → Dec (i ≡ a) → (find_some g (numbers (suc a) n) ≡ None → (j : ℕ) → suc a ≤ j → j < suc a + n → g j ≡ None) → g i ≡ None
+    by (Some x) t d rec = absurd (some-ne-none x (rw t at e))
+    by None t (yes z) rec = rw z t
+    by None t (no z) rec = rec (rw t at e) i (lt_of_le-ne h (λ x. z (sym x))) (omega arith)
 
-pub none_find_some : (g : ℕ → Option ℕ) (a n : ℕ) → ((i : ℕ) → a ≤ i → i < a + n → g i ≡ none) → find_some g (numbers a n) ≡ none
+pub none_find_some : (g : ℕ → Option ℕ) (a n : ℕ) → ((i : ℕ) → a ≤ i → i < a + n → g i ≡ None) → find_some g (numbers a n) ≡ None
 unfolding find_some numbers
 none_find_some g a zero h = refl
 none_find_some g a (suc n) h = rw (h a (omega arith) (omega arith)) (none_find_some g (suc a) n (λ i b c. h i (omega arith) (omega arith)))
 
 -- so nothing is found exactly where nothing passes the test
 abbrev pub as_answer : (q : ℕ → Bool) → ℕ → Option ℕ
-as_answer q i = cond (q i) (some i) none
+as_answer q i = cond (q i) (Some i) None
 
 pub find_answer : (q : ℕ → Bool) (l : List ℕ) → find q l ≡ find_some (as_answer q) l
 unfolding find find_some
 find_answer q [] = refl
 find_answer q (i ∷ l) = by (q i) (find_answer q l)
   where
-    by : (b : Bool) → find q l ≡ find_some (as_answer q) l → cond b (some i) (find q l) ≡ or_else (cond b (some i) none) (find_some (as_answer q) l)
+    by : (b : Bool) → find q l ≡ find_some (as_answer q) l → cond b (Some i) (find q l) ≡ or_else (cond b (Some i) None) (find_some (as_answer q) l)
     by true e = refl
     by false e = e
 
-pub find_none : (q : ℕ → Bool) (a n : ℕ) → find q (numbers a n) ≡ none → (i : ℕ) → a ≤ i → i < a + n → q i ≡ false
+pub find_none : (q : ℕ → Bool) (a n : ℕ) → find q (numbers a n) ≡ None → (i : ℕ) → a ≤ i → i < a + n → q i ≡ false
 find_none q a n e i h h' = by (q i) (find_some_none (as_answer q) a n (sym (find_answer q (numbers a n)) ∙ e) i h h')
   where
-    by : (b : Bool) → ◌≡◌ {A = Option ℕ} (cond b (some i) none) none → b ≡ false
+    by : (b : Bool) → ◌≡◌ {A = Option ℕ} (cond b (Some i) None) None → b ≡ false
     by true r = absurd (some-ne-none i r)
     by false r = refl
 
-pub none_find : (q : ℕ → Bool) (a n : ℕ) → ((i : ℕ) → a ≤ i → i < a + n → q i ≡ false) → find q (numbers a n) ≡ none
+pub none_find : (q : ℕ → Bool) (a n : ℕ) → ((i : ℕ) → a ≤ i → i < a + n → q i ≡ false) → find q (numbers a n) ≡ None
 none_find q a n h = find_answer q (numbers a n) ∙ none_find_some (as_answer q) a n (λ i b c. rw (h i b c))
 
 -- what is found passes the test
-pub find_some_lem : (q : ℕ → Bool) (a n i : ℕ) → find q (numbers a n) ≡ some i → (i < a + n) × (q i ≡ true)
+pub find_some_lem : (q : ℕ → Bool) (a n i : ℕ) → find q (numbers a n) ≡ Some i → (i < a + n) × (q i ≡ true)
 unfolding find numbers
 find_some_lem q a zero i e = absurd (none-ne-some i e)
 find_some_lem q a (suc n) i e = by (q a) refl (find_some_lem q (suc a) n i)
   where
-    by : (b : Bool) → q a ≡ b → (find q (numbers (suc a) n) ≡ some i → (i < suc a + n) × (q i ≡ true)) → (i < a + suc n) × (q i ≡ true)
+    by : (b : Bool) → q a ≡ b → (find q (numbers (suc a) n) ≡ Some i → (i < suc a + n) × (q i ≡ true)) → (i < a + suc n) × (q i ≡ true)
     by true t rec =
         let z : a ≡ i = some-injective a i (rw t at e) in
         (omega arith, rw (← z) t)
@@ -97,12 +98,12 @@ find_some_lem q a (suc n) i e = by (q a) refl (find_some_lem q (suc a) n i)
         (omega (arith, w.0), w.1)
 
 -- what is found from a up is not below a, and nothing before it passes
-pub found_first : (q : ℕ → Bool) (a n i : ℕ) → find q (numbers a n) ≡ some i → (a ≤ i) × ((y : ℕ) → a ≤ y → y < i → q y ≡ false)
+pub found_first : (q : ℕ → Bool) (a n i : ℕ) → find q (numbers a n) ≡ Some i → (a ≤ i) × ((y : ℕ) → a ≤ y → y < i → q y ≡ false)
 unfolding find numbers
 found_first q a zero i e = absurd (none-ne-some i e)
 found_first q a (suc n) i e = by (q a) refl e (found_first q (suc a) n i)
   where
-    by : (b : Bool) → q a ≡ b → cond b (some a) (find q (numbers (suc a) n)) ≡ some i → (find q (numbers (suc a) n) ≡ some i → (suc a ≤ i) × ((y : ℕ) → suc a ≤ y → y < i → q y ≡ false)) → (a ≤ i) × ((y : ℕ) → a ≤ y → y < i → q y ≡ false)
+    by : (b : Bool) → q a ≡ b → cond b (Some a) (find q (numbers (suc a) n)) ≡ Some i → (find q (numbers (suc a) n) ≡ Some i → (suc a ≤ i) × ((y : ℕ) → suc a ≤ y → y < i → q y ≡ false)) → (a ≤ i) × ((y : ℕ) → a ≤ y → y < i → q y ≡ false)
     by true t f rec =
         let z : a ≡ i = some-injective a i f in
         (omega arith, λ y b c. absurd (omega arith))
@@ -115,12 +116,12 @@ found_first q a (suc n) i e = by (q a) refl e (found_first q (suc a) n i)
         at y (no z) b c r = r y (lt_of_le-ne b (λ w. z (sym w))) c
 
 -- the first number that passes is found
-pub find_first : (q : ℕ → Bool) (a n i : ℕ) → a ≤ i → i < a + n → q i ≡ true → ((s : ℕ) → a ≤ s → s < i → q s ≡ false) → find q (numbers a n) ≡ some i
+pub find_first : (q : ℕ → Bool) (a n i : ℕ) → a ≤ i → i < a + n → q i ≡ true → ((s : ℕ) → a ≤ s → s < i → q s ≡ false) → find q (numbers a n) ≡ Some i
 unfolding find numbers
 find_first q a zero i h k e f = absurd (omega arith)
 find_first q a (suc n) i h k e f = by (ℕ_discrete a i) (find_first q (suc a) n i)
   where
-    by : Dec (a ≡ i) → (suc a ≤ i → i < suc a + n → q i ≡ true → ((s : ℕ) → suc a ≤ s → s < i → q s ≡ false) → find q (numbers (suc a) n) ≡ some i) → find q (numbers a (suc n)) ≡ some i
+    by : Dec (a ≡ i) → (suc a ≤ i → i < suc a + n → q i ≡ true → ((s : ℕ) → suc a ≤ s → s < i → q s ≡ false) → find q (numbers (suc a) n) ≡ Some i) → find q (numbers a (suc n)) ≡ Some i
     by (yes z) rec = rw (z, e)
     by (no z) rec =
         let less : a < i = lt_of_le-ne h z in

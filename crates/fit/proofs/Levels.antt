@@ -3,7 +3,8 @@
 use Prim.Native.Nat.{ℕ, ◌+◌, ◌*◌, ◌/◌, ◌%◌, ◌≤◌, ◌<◌}
 use mathlib.Core.Path.{◌≡◌, refl, sym, ap, subst, ◌∙◌}
 use mathlib.Core.Bool.{Bool, true, false, cond}
-use mathlib.Core.Option.{none, some, some-ne-none}
+use Rattle.std.specs.Prelude.{None, Some}
+use Rattle.sheet.proofs.Options.{some-ne-none}
 use mathlib.Core.List.{List, [], ◌∷◌, ◌++◌}
 use native.Mathlib.Nat.{mul-one, mul-zero, zero-mul, mul_assoc, mul_comm, mul-pos, mul-div_right, mul-mod_right, div-add-mod, add-mul, le_of_mul-le-mul_right, lt_of_mul-lt-mul_left, div-le_of_le-mul}
 use native.Mathlib.Omega.{arith}
@@ -32,16 +33,16 @@ unfolding Multiple
 mod_multiple d m h = rw h.1 (mul-mod_right d h.0)
 
 -- a chain has no break where each factor is a multiple of the one before, and nowhere else
-pub chain_multiples : (M : ℕ → ℕ) (d : ℕ) (l : List ℕ) → chain_break M d l ≡ none → Multiples M d l
+pub chain_multiples : (M : ℕ → ℕ) (d : ℕ) (l : List ℕ) → chain_break M d l ≡ None → Multiples M d l
 unfolding chain_break Multiples
 chain_multiples M d [] h = tt
 chain_multiples M d (i ∷ l) h = by (eqb (M i % d) 0) refl h (λ q. chain_multiples M (M i) l q)
   where
-    by : (b : Bool) → eqb (M i % d) 0 ≡ b → cond b (chain_break M (M i) l) (some i) ≡ none → (chain_break M (M i) l ≡ none → Multiples M (M i) l) → Multiple d (M i) × Multiples M (M i) l
+    by : (b : Bool) → eqb (M i % d) 0 ≡ b → cond b (chain_break M (M i) l) (Some i) ≡ None → (chain_break M (M i) l ≡ None → Multiples M (M i) l) → Multiple d (M i) × Multiples M (M i) l
     by true e q r = (multiple_mod d (M i) (eqb-true (M i % d) 0 e), r q)
     by false e q r = absurd (some-ne-none i q)
 
-pub multiples_chain : (M : ℕ → ℕ) (d : ℕ) (l : List ℕ) → Multiples M d l → chain_break M d l ≡ none
+pub multiples_chain : (M : ℕ → ℕ) (d : ℕ) (l : List ℕ) → Multiples M d l → chain_break M d l ≡ None
 unfolding chain_break Multiples
 multiples_chain M d [] h = refl
 multiples_chain M d (i ∷ l) h = rw (eq-eqb (M i % d) 0 (mod_multiple d (M i) h.0)) (multiples_chain M (M i) l h.1)

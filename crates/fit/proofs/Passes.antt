@@ -11,7 +11,8 @@ use borrow.Author.Tests.{le-leb, lt-leb, not-true, not-false}
 use lib.ListN.{length, get_or, drop, drop_of_length-le}
 use lib.Seq.{drop-cons}
 use lib.Dec.{leb, eqb}
-use Rattle.fit.specs.declared.Chain.TheVariants.{Whole, Broken}
+use Rattle.std.specs.Prelude.{Result, Ok, Err}
+use Rattle.fit.specs.declared.Break.{Break}
 use Rattle.fit.specs.Lists.{sum}
 use Rattle.fit.specs.Fits.{chain_break, last_factor, load}
 use Rattle.fit.specs.Answers.{chain_answer, chained, load_in_range}
@@ -31,13 +32,13 @@ module _ (M : ℕ → ℕ) (l : List ℕ) (d i m : ℕ) (r : Bool) (h : i < leng
       let q : eqb (m % d) 0 ≡ true = not-false (eqb (m % d) 0) (sym t ∙ e) in
       record { break = k.break ∙ rw (add-one i, drop-cons l i 0 h, ← f, q); last = k.last ∙ rw (add-one i, drop-cons l i 0 h, f) }
 
-  pub link_break : r ≡ true → Broken (get_or l i 0) ≡ chained M l
+  pub link_break : r ≡ true → ◌≡◌ {A = Result ℕ Break} (Err (record { task = get_or l i 0 })) (chained M l)
   unfolding chain_break chained chain_answer
   link_break e =
       let q : eqb (m % d) 0 ≡ false = not-true (eqb (m % d) 0) (sym t ∙ e) in
       rw (k.break, drop-cons l i 0 h, ← f, q)
 
-pub link_end : (M : ℕ → ℕ) (l : List ℕ) (d i : ℕ) → length l ≤ i → Linked M l d i → Whole d ≡ chained M l
+pub link_end : (M : ℕ → ℕ) (l : List ℕ) (d i : ℕ) → length l ≤ i → Linked M l d i → Ok d ≡ chained M l
 unfolding chain_break last_factor chained chain_answer
 link_end M l d i h k = rw (k.break, k.last, drop_of_length-le l {i = i} h)
 

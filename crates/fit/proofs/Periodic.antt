@@ -5,7 +5,7 @@ use Prim.Native.Nat.{ℕ, ◌+◌, ◌*◌, ◌/◌, ◌≤◌, ◌<◌}
 use mathlib.Core.Path.{◌≡◌, refl, sym, ◌∙◌}
 use mathlib.Core.Logic.{◌↔◌}
 use mathlib.Core.Bool.{true}
-use mathlib.Core.Option.{some}
+use Rattle.std.specs.Prelude.{Some}
 use mathlib.Core.List.{List, [], ◌∷◌, ◌++◌}
 use native.Mathlib.Nat.{mul-one, one-mul, mul-zero, zero-mul, mul_assoc, mul_comm, mul_right_comm, mul-mul-mul_comm, mul-div_right, add-mul, mul-pos, mul-le-mul_left, mul-le-mul_right, le_of_mul-le-mul_left, le_of_mul-le-mul_right, eq_of_mul-eq-mul_left, eq_of_mul-eq-mul_right, lt_of_mul-lt-mul_left}
 use native.Mathlib.Omega.{arith}
@@ -157,7 +157,7 @@ module _ (p e s M : ℕ → ℕ) (Q D : ℕ) (q : 1 ≤ Q) (d : 1 ≤ D) (l : Li
 
 -- The chain asks for the rise too: a task of period 5 and budget 1 with factor 2 above one of 6 and 1 with factor 1, pivot 2 and divisor 1,
 -- have accelerated periods 4 and 2. They are an accelerated simply periodic set, and the chain breaks at task 1.
-pub falling_set : AcceleratedSet (at (5 ∷ 6 ∷ [])) (at (1 ∷ 1 ∷ [])) (at (2 ∷ 1 ∷ [])) 2 1 (0 ∷ 1 ∷ []) × (chain_break (at (2 ∷ 1 ∷ [])) 1 (0 ∷ 1 ∷ []) ≡ some 1)
+pub falling_set : AcceleratedSet (at (5 ∷ 6 ∷ [])) (at (1 ∷ 1 ∷ [])) (at (2 ∷ 1 ∷ [])) 2 1 (0 ∷ 1 ∷ []) × (chain_break (at (2 ∷ 1 ∷ [])) 1 (0 ∷ 1 ∷ []) ≡ Some 1)
 unfolding AtMost Times WholeRatio plus total accelerated utilisation whole_number Each EachPair chain_break
 falling_set = (
   record {

@@ -1,6 +1,6 @@
 -- What a search finds, as facts (docs/SHEET.md, section 4: the first task, the first core).
 use Rattle.std.specs.Prelude.{ℕ, ◌<◌, ◌≡◌, Bool, true, false, List, ◌∷◌, ◌++◌}
-use Rattle.std.proofs.Math.Option.{Option, none, some}
+use Rattle.std.specs.Prelude.{Option, None, Some}
 use Rattle.fit.specs.Fits.{Multiple, Multiples, last_factor}
 
 -- x is the first number below n that passes a test
@@ -13,8 +13,8 @@ pub record FirstAt (q : ℕ → Bool) (n x : ℕ) : Type 0 where
 pub record FirstAnswer (g : ℕ → Option ℕ) (n x : ℕ) : Type 0 where
   pub number : ℕ
   pub below : number < n
-  pub answers : g number ≡ some x
-  pub first : (y : ℕ) → y < number → g y ≡ none
+  pub answers : g number ≡ Some x
+  pub first : (y : ℕ) → y < number → g y ≡ None
 
 -- i is the first task of a list whose factor is no multiple of the factor before it, which is d before the first: the tasks before it are
 -- a chain

@@ -1,7 +1,7 @@
 -- When a core fits: acceleration, simply periodic factors, load at most one; the bound w (docs/SHEET.md, section 3); and the load with
 -- strokes (section 14). p, e, q and M are by task number; Q and D are the core's. The list is the core's tasks in priority order.
 use Rattle.std.specs.Prelude.{ℕ, ◌+◌, ◌-◌, ◌*◌, ◌/◌, ◌%◌, ◌≤◌, max, ◌≡◌, Bool, false, cond, ◌||◌, List, [], ◌∷◌, ◌++◌, ltb, eqb}
-use Rattle.std.proofs.Math.Option.{Option, none, some}
+use Rattle.std.specs.Prelude.{Option, None, Some}
 use Rattle.fit.specs.Lists.{sum}
 
 -- 12 Stretch: Q × M is above p × D, which means that the accelerated period Q × M / D is above the period p.
@@ -10,8 +10,8 @@ stretched Q D p M = ltb (p * D) (Q * M)
 
 -- 13 Chain: the first task of the list whose factor is no multiple of the factor before it; d stands before the first.
 unfoldable pub chain_break : (ℕ → ℕ) → ℕ → List ℕ → Option ℕ
-chain_break M d [] = none
-chain_break M d (i ∷ l) = cond (eqb (M i % d) 0) (chain_break M (M i) l) (some i)
+chain_break M d [] = None
+chain_break M d (i ∷ l) = cond (eqb (M i % d) 0) (chain_break M (M i) l) (Some i)
 
 -- m is a multiple of d
 unfoldable pub Multiple : ℕ → ℕ → Type 0

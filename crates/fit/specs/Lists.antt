@@ -1,6 +1,6 @@
 -- Functions on lists, mostly of task or core numbers, in which the definitions are written (docs/SHEET.md, sections 3 to 8).
 use Rattle.std.specs.Prelude.{ℕ, zero, suc, ◌+◌, ◌-◌, eqb, Bool, false, cond, ◌||◌, List, [], ◌∷◌, ◌++◌, length, get_or, drop, replicate}
-use Rattle.std.proofs.Math.Option.{Option, none, some}
+use Rattle.std.specs.Prelude.{Option, None, Some}
 
 -- what stands at a place of a list, and 0 past its end
 abbrev pub at : List ℕ → ℕ → ℕ
@@ -17,8 +17,8 @@ numbers a (suc n) = a ∷ numbers (suc a) n
 
 -- the first of a list that passes a test
 unfoldable pub find : (ℕ → Bool) → List ℕ → Option ℕ
-find q [] = none
-find q (i ∷ l) = cond (q i) (some i) (find q l)
+find q [] = None
+find q (i ∷ l) = cond (q i) (Some i) (find q l)
 
 -- some number below n passes a test
 unfoldable pub some_below : (ℕ → Bool) → ℕ → Bool
@@ -32,12 +32,12 @@ place_of q (x ∷ l) = cond (q x) 0 (suc (place_of q l))
 
 -- an answer, or another where there is none
 abbrev pub or_else : Option ℕ → Option ℕ → Option ℕ
-or_else none o = o
-or_else (some x) o = some x
+or_else None o = o
+or_else (Some x) o = Some x
 
 -- what the first of a list that has an answer answers
 unfoldable pub find_some : (ℕ → Option ℕ) → List ℕ → Option ℕ
-find_some f [] = none
+find_some f [] = None
 find_some f (i ∷ l) = or_else (f i) (find_some f l)
 
 -- the sum of a figure over a list

@@ -10,12 +10,6 @@ use std::fmt::Write;
 use std::io::{Input as Source, Read};
 use std::{fmt, io};
 
-#[derive(Clone, Copy)]
-pub enum Input {
-    Bytes(usize),
-    Failed,
-}
-
 // Room for what an error displays: at most 256 bytes of words and 23 with its number.
 const ROOM: usize = 300;
 
@@ -76,16 +70,16 @@ pub fn say_failed(rt: &impl Eprint, stream: &str, error: io::Error) {
     let _ = eprintln!(rt; "{stream}: {text}");
 }
 
-// Reads standard input until the buffer is full or the input ends, and answers how many bytes stand at the buffer's front. An error at any
-// read, also after some bytes, is a failure, and why has been said.
-pub fn read_input(rt: &(impl Source + Eprint), buf: &mut [u8]) -> Input
+// Reads standard input until the buffer is full or the input ends, and answers how many bytes stand at the buffer's front. After an error at any
+// read, also after some bytes, there is no answer, and why has been said.
+pub fn read_input(rt: &(impl Source + Eprint), buf: &mut [u8]) -> Option<usize>
     ensures { Inside result buf.new × (length buf.new ≡ length buf.old) }
 {
     match fill(&mut rt.reader(), buf) {
-        Ok(n) => Input::Bytes(n),
+        Ok(n) => Some(n),
         Err(error) => {
             say_failed(rt, "standard input", error);
-            Input::Failed
+            None
         }
     }
 }

@@ -3,18 +3,17 @@
 
 ghost use Rattle.std.specs.Prelude.{◌≡◌, length};
 ghost use Rattle.sheet.specs.Refusals.{number_of};
-ghost use Rattle.jobinput.specs.Inputs.{Inside, Taken, of_job, line_named};
+ghost use Rattle.jobinput.specs.Inputs.{Inside, Taken, line_named};
 
-use input::Input;
-use jobtext::{Fault, Read};
-use sheet::Refusal;
+use jobtext::{Fault, WrongLine};
+use sheet::{Refusal, Rejection};
 use std::io::Input as Source;
 
-// The bytes of the text and of its jobs, each at the front of its buffer, or that there is no list, and why has been said.
-#[derive(Clone, Copy)]
-pub enum Given {
-    Jobs { text: usize, jobs: usize },
-    Nothing,
+// The bytes of a text and of its jobs, each at the front of its buffer.
+#[derive(Clone, Copy, Debug, PartialEq, Eq)]
+pub struct Lengths {
+    pub text: usize,
+    pub jobs: usize,
 }
 
 fn say_line(rt: &impl Eprint, line: u64, fault: Fault) {
@@ -27,22 +26,17 @@ fn say_line(rt: &impl Eprint, line: u64, fault: Fault) {
     };
 }
 
-// Whether the place of a refusal is a job.
-fn is_of_job(number: u8) -> bool
-    ensures { result ≡ of_job number }
-{
-    (number == 7) | ((number == 8) | (number == 15))
-}
-
-// The line of the job at the place of a refusal, or 0 where the place is none.
+// The line of the job at the place of a refusal, if its place is a job.
 #[tactic(auto, unfolding(crate::specs::Inputs::line_named))]
-fn line_named(number: u8, place: u16, text: &[u8]) -> u64
-    ensures { result ≡ line_named number place text.now }
+fn line_named(word: Refusal, place: u16, text: &[u8]) -> Option<u64>
+    ensures { result ≡ line_named (number_of word) place text.now }
 {
-    if is_of_job(number) {
-        return jobtext::line_of(text, place as usize);
+    match word {
+        Refusal::Period | Refusal::Budget | Refusal::NoFit => {
+            Some(jobtext::line_of(text, usize::from(place)))
+        }
+        _ => None,
     }
-    0
 }
 
 // The reason of a refusal, of a list that is empty or not. The text has at most 64 jobs, so the word Count is of the core limit.
@@ -63,55 +57,47 @@ fn reason(word: Refusal, empty: bool) -> &'static str {
     }
 }
 
-// Says why the list of a text, empty or not, is refused. Returns the line that it names, or 0 where it names none.
-pub fn say_refused(rt: &impl Eprint, word: Refusal, place: u16, text: &[u8], empty: bool) -> u64
-    ensures { result ≡ line_named (number_of word) place text.now }
+// Says why the list of a text, empty or not, is refused. Returns the line that it names, if it names one.
+pub fn say_refused(rt: &impl Eprint, rejection: Rejection, text: &[u8], empty: bool) -> Option<u64>
+    ensures { result ≡ line_named (number_of rejection.word) rejection.place text.now }
 {
-    let number = sheet::number(word);
-    let line = line_named(number, place, text);
-    let reason = reason(word, empty);
-    let _ = if 0 < line {
-        eprintln!(rt; "refused {number} place {place} line {line}{reason}")
-    } else {
-        eprintln!(rt; "refused {number} place {place}{reason}")
+    let line = line_named(rejection.word, rejection.place, text);
+    let reason = reason(rejection.word, empty);
+    let _ = match line {
+        Some(line) => eprintln!(rt; "{rejection} line {line}{reason}"),
+        None => eprintln!(rt; "{rejection}{reason}"),
     };
     line
 }
 
 // The jobs of a text, or what is wrong with it.
-fn read_text(rt: &impl Eprint, text: &[u8], jobs: &mut [u8]) -> Given
+fn read_text(rt: &impl Eprint, text: &[u8], jobs: &mut [u8]) -> Option<Lengths>
     ensures inside { Inside result text.now jobs.new × (length jobs.new ≡ length jobs.old) }
     ensures taken { Taken result text.now jobs.old jobs.new }
 {
-    let read = jobtext::read_jobs(text, jobs);
-    match read {
-        Read::Wrong(line, fault) => {
+    match jobtext::read_jobs(text, jobs) {
+        Err(WrongLine { line, fault }) => {
             say_line(rt, line, fault);
-            Given::Nothing
+            None
         }
-        Read::Jobs(length) => Given::Jobs {
+        Ok(length) => Some(Lengths {
             text: text.len(),
-            jobs: length as usize,
-        },
+            jobs: usize::from(length),
+        }),
     }
 }
 
 // Reads a text from standard input and its jobs, or says what is wrong. A text that fills its buffer is too long, so a caller lends 65,536
 // bytes for it, and 256 for the jobs.
-pub fn read_list(rt: &(impl Source + Eprint), text: &mut [u8], jobs: &mut [u8]) -> Given
+pub fn read_list(rt: &(impl Source + Eprint), text: &mut [u8], jobs: &mut [u8]) -> Option<Lengths>
     ensures inside { Inside result text.new jobs.new }
     ensures taken { Taken result text.new jobs.old jobs.new }
     ensures text_len_unchanged { (length text.new ≡ length text.old) × (length jobs.new ≡ length jobs.old) }
 {
-    let got = input::read_input(rt, text);
-    match got {
-        Input::Failed => Given::Nothing,
-        Input::Bytes(n) => {
-            if n == text.len() {
-                let _ = eprintln!(rt; "the text is longer than the limit of 65535 bytes");
-                return Given::Nothing;
-            }
-            read_text(rt, &text[..n], jobs)
-        }
+    let n = input::read_input(rt, text)?;
+    if n == text.len() {
+        let _ = eprintln!(rt; "the text is longer than the limit of 65535 bytes");
+        return None;
     }
+    read_text(rt, &text[..n], jobs)
 }

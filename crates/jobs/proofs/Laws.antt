@@ -3,7 +3,7 @@
 use Prim.Native.Nat.{ℕ, ◌/◌, ◌≤◌, zero-le}
 use mathlib.Core.Path.{◌≡◌, sym, ◌∙◌}
 use mathlib.Core.Bool.{Bool, false, ◌||◌}
-use mathlib.Core.Option.{none}
+use Rattle.std.specs.Prelude.{None}
 use mathlib.Core.List.{List}
 use native.Mathlib.Nat.{zero-add}
 use borrow.Author.Tests.{ltb-false, eqb-true, not-false}
@@ -22,7 +22,7 @@ unfolding job_count
 few l limit r e h = ltb-false _ _ (neither (ltb 64 (length l / 4)) (ltb 8 limit) (sym e ∙ h)).0
 
 -- a list that passes the rules
-pub listed : (limit : ℕ) (l : List ℕ) → none ≡ scan (list_rows limit l) → Listed limit l
+pub listed : (limit : ℕ) (l : List ℕ) → None ≡ scan (list_rows limit l) → Listed limit l
 unfolding list_rows bad_period bad_budget
 listed limit l e =
     let a = scan_clear 5 _ _ e in

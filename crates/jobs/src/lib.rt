@@ -2,19 +2,18 @@
 #![tactic(auto)]
 
 ghost use Rattle.std.specs.Prelude.{◌≡◌, not, ◌||◌, ◌%◌, min, length, ltb, eqb};
-ghost use Rattle.sheet.specs.Table.{scan, found_of, finding_of};
+ghost use Rattle.sheet.specs.Table.{scan, refusal_of};
 ghost use Rattle.fit.specs.Lists.{numbers, find};
 ghost use Rattle.fit.specs.Ring.{order_by};
-ghost use Rattle.fit.specs.Answers.{Ordered};
 ghost use Rattle.jobs.specs.Jobs.{job_count, job_period, job_budget, list_rows};
 ghost use Rattle.jobs.specs.Steps.{broken};
 
 use fit::{By, Order};
-use sheet::{Finding, Found, Refusal};
+use sheet::{Refusal, Rejection};
 
 // The tasks of a job list of n entries in priority order or in ring order; of more than 64 the first 64.
 pub fn in_order(by: By, jobs: &[u8], n: u8) -> Order
-    ensures { Ordered (order_by by (job_period jobs.now) (min n 64)) result }
+    ensures { result.items ≡ order_by by (job_period jobs.now) (min n 64) }
 {
     let periods = fit::periods_of(jobs, 4, n);
     order::sorted(by, &periods, n)
@@ -53,17 +52,17 @@ fn is_broken(field: Field, jobs: &[u8], i: u8) -> bool
 }
 
 // The first of n entries at which a field is out of range.
-fn first(field: Field, jobs: &[u8], n: u8) -> Found
-    ensures { found_of result ≡ find (broken field jobs.now) (numbers 0 n) }
+fn first(field: Field, jobs: &[u8], n: u8) -> Option<u8>
+    ensures { result ≡ find (broken field jobs.now) (numbers 0 n) }
 {
     let mut i = 0;
     while i < n {
         if is_broken(field, jobs, i) {
-            return Found::At(i);
+            return Some(i);
         }
         i += 1;
     }
-    Found::Nothing
+    None
 }
 
 fn is_uneven(jobs: &[u8]) -> bool
@@ -80,23 +79,23 @@ fn is_over_count(jobs: &[u8], limit: u64) -> bool
 }
 
 // Checks a job list and a core limit: refusals 5, 4, 7 and 8.
-pub fn check_list(jobs: &[u8], limit: u64) -> Finding
-    ensures { finding_of result ≡ scan (list_rows limit jobs.now) }
+pub fn check_list(jobs: &[u8], limit: u64) -> Result<(), Rejection>
+    ensures { refusal_of result ≡ scan (list_rows limit jobs.now) }
 {
     if is_uneven(jobs) {
-        return Finding::Broken(Refusal::Length, 0);
+        return Err(Refusal::Length.at(0));
     }
     if is_over_count(jobs, limit) {
-        return Finding::Broken(Refusal::Count, 0);
+        return Err(Refusal::Count.at(0));
     }
     let n = (jobs.len() / 4) as u8;
     let period = first(Field::Period, jobs, n);
-    if let Found::At(i) = period {
-        return Finding::Broken(Refusal::Period, i as u16);
+    if let Some(i) = period {
+        return Err(Refusal::Period.at(u16::from(i)));
     }
     let budget = first(Field::Budget, jobs, n);
-    if let Found::At(i) = budget {
-        return Finding::Broken(Refusal::Budget, i as u16);
+    if let Some(i) = budget {
+        return Err(Refusal::Budget.at(u16::from(i)));
     }
-    Finding::Clear
+    Ok(())
 }

@@ -7,8 +7,8 @@ use Rattle.jobtext.specs.declared.Line.{Line}
 use Rattle.jobtext.specs.declared.State.{State}
 use Rattle.jobtext.specs.declared.Fault.{Fault}
 use Rattle.jobtext.specs.declared.Fault.TheVariants.{NoJob, Large, Full}
-use Rattle.jobtext.specs.declared.Read.{Read}
-use Rattle.jobtext.specs.declared.Read.TheVariants.{Jobs, Wrong}
+use Rattle.std.specs.Prelude.{Result, Ok, Err}
+use Rattle.jobtext.specs.declared.WrongLine.{WrongLine}
 
 -- a line with nothing in it
 abbrev pub empty_line : Line
@@ -100,8 +100,8 @@ unfoldable pub fault_of : ℕ → ℕ → Line → Fault
 fault_of room count l = cond (eqb l.numbers 2) (cond (ltb count room) Large Full) NoJob
 
 -- the answer, and what the output then holds: the jobs at its front, or all as it was
-unfoldable pub read_of : ℕ → State → Read
-read_of room s = cond s.stopped (Wrong s.number (fault_of room s.count s.line)) (Jobs (4 * s.count))
+unfoldable pub read_of : ℕ → State → Result ℕ WrongLine
+read_of room s = cond s.stopped (Err (record { line = s.number; fault = fault_of room s.count s.line })) (Ok (4 * s.count))
 
 unfoldable pub holding : State → List ℕ → List ℕ
 holding s out = cond s.stopped out (take (4 * s.count) s.jobs ++ drop (4 * s.count) out)

@@ -5,18 +5,18 @@ ghost use Rattle.std.specs.Prelude.{◌≡◌, ◌++◌, ◌+◌, ◌-◌, ◌*�
 ghost use Rattle.jobtext.specs.Text.{empty_line, bad, longer, begun, digit, pause, is_digit, is_blank, in_line, start_state, fits, added, new_line, stopped_at, line_end, step, finish, room_in, fault_of, read_of, holding, line_of};
 
 // What is wrong with a line: it is not two numbers, one of the two is above 65,535, or there is no room for its job.
-#[derive(Clone, Copy)]
+#[derive(Clone, Copy, Debug, PartialEq, Eq)]
 pub enum Fault {
     NoJob,
     Large,
     Full,
 }
 
-// The bytes of the jobs that were written, or the first line that is wrong, counted from 1.
-#[derive(Clone, Copy)]
-pub enum Read {
-    Jobs(u16),
-    Wrong(u64, Fault),
+// The first line that is wrong, counted from 1.
+#[derive(Clone, Copy, Debug, PartialEq, Eq)]
+pub struct WrongLine {
+    pub line: u64,
+    pub fault: Fault,
 }
 
 // The line being read: how many numbers it has, 3 if they cannot be a job; whether a number or a comment is being read, and whether a
@@ -321,20 +321,23 @@ fn find_fault(line: Line, count: usize, room: usize) -> Fault
     Fault::Full
 }
 
-// Reads a job list from a text: its jobs at the front of the output, four bytes each, or the first line that is wrong, and then no byte is
-// written.
-pub fn read_jobs(text: &[u8], out: &mut [u8]) -> Read
+// Reads a job list from a text: puts its jobs at the front of the output, four bytes each, and returns how many bytes they are. Where a line is
+// wrong, no byte is written.
+pub fn read_jobs(text: &[u8], out: &mut [u8]) -> Result<u16, WrongLine>
     ensures { (result ≡ read_of (room_in out.old) (finish (room_in out.old) text.now)) × (out.new ≡ holding (finish (room_in out.old) text.now) out.old) }
 {
     let room = room_in(out.len());
     let s = read_all(text, room);
     if s.stopped {
-        return Read::Wrong(s.number, find_fault(s.line, s.count, room));
+        return Err(WrongLine {
+            line: s.number,
+            fault: find_fault(s.line, s.count, room),
+        });
     }
     let n = 4 * s.count;
     let jobs = s.jobs;
     copy(out, &jobs, n);
-    Read::Jobs(n as u16)
+    Ok(n as u16)
 }
 
 // The line of a job of the text, lines counted from 1 and jobs from 0. Where it has no such job, the line at which the reading ends.

@@ -4,7 +4,9 @@ use Prim.Native.Nat.{ℕ, zero, suc, ◌+◌, ◌*◌, ◌%◌, ◌≤◌, ◌<�
 use mathlib.Core.Path.{◌≡◌, refl, subst, ◌∙◌}
 use mathlib.Core.Logic.{◌⊎◌, inl, inr}
 use mathlib.Core.Bool.{Bool, true, false, cond}
-use mathlib.Core.Option.{Option, none, some, map, none-ne-some, some-injective}
+use Rattle.std.specs.Prelude.{Option, None, Some}
+use Rattle.std.specs.Option.{option_map}
+use Rattle.sheet.proofs.Options.{none-ne-some, some-injective}
 use mathlib.Core.List.{List, [], ◌∷◌}
 use native.Mathlib.Nat.{le_trans, zero-add, mul-suc}
 use native.Mathlib.Omega.{arith}
@@ -103,36 +105,36 @@ accepted_short s t =
     simp length-append (omega (arith, a, b, c, t.frame.tasks, t.frame.cores))
 
 -- what is found is one of those looked at
-find_in : (P : ℕ → Type 0) (q : ℕ → Bool) (l : List ℕ) (x : ℕ) → Each P l → find q l ≡ some x → P x
+find_in : (P : ℕ → Type 0) (q : ℕ → Bool) (l : List ℕ) (x : ℕ) → Each P l → find q l ≡ Some x → P x
 unfolding Each find
 find_in P q [] x h e = absurd (none-ne-some x e)
 find_in P q (i ∷ l) x h e = by (q i) refl e (find_in P q l x h.1)
   where
-    by : (b : Bool) → q i ≡ b → cond b (some i) (find q l) ≡ some x → (find q l ≡ some x → P x) → P x
+    by : (b : Bool) → q i ≡ b → cond b (Some i) (find q l) ≡ Some x → (find q l ≡ Some x → P x) → P x
     by true t e r = subst P (some-injective i x e) h.0
     by false t e r = r e
 
-chain_in : (P : ℕ → Type 0) (M : ℕ → ℕ) (d : ℕ) (l : List ℕ) (x : ℕ) → Each P l → chain_break M d l ≡ some x → P x
+chain_in : (P : ℕ → Type 0) (M : ℕ → ℕ) (d : ℕ) (l : List ℕ) (x : ℕ) → Each P l → chain_break M d l ≡ Some x → P x
 unfolding Each chain_break
 chain_in P M d [] x h e = absurd (none-ne-some x e)
 chain_in P M d (i ∷ l) x h e = by (eqb (M i % d) 0) e (chain_in P M (M i) l x h.1)
   where
-    by : (b : Bool) → cond b (chain_break M (M i) l) (some i) ≡ some x → (chain_break M (M i) l ≡ some x → P x) → P x
+    by : (b : Bool) → cond b (chain_break M (M i) l) (Some i) ≡ Some x → (chain_break M (M i) l ≡ Some x → P x) → P x
     by true e r = r e
     by false e r = subst P (some-injective i x e) h.0
 
-some_in : (P : ℕ → Type 0) (f : ℕ → Option ℕ) (l : List ℕ) (x : ℕ) → ((i y : ℕ) → f i ≡ some y → P y) → find_some f l ≡ some x → P x
+some_in : (P : ℕ → Type 0) (f : ℕ → Option ℕ) (l : List ℕ) (x : ℕ) → ((i y : ℕ) → f i ≡ Some y → P y) → find_some f l ≡ Some x → P x
 unfolding find_some
 some_in P f [] x h e = absurd (none-ne-some x e)
 some_in P f (i ∷ l) x h e = by (f i) refl e (some_in P f l x h)
   where
-    by : (o : Option ℕ) → f i ≡ o → or_else o (find_some f l) ≡ some x → (find_some f l ≡ some x → P x) → P x
-    by none t e r = r e
-    by (some y) t e r = h i x (t ∙ e)
+    by : (o : Option ℕ) → f i ≡ o → or_else o (find_some f l) ≡ Some x → (find_some f l ≡ Some x → P x) → P x
+    by None t e r = r e
+    by (Some y) t e r = h i x (t ∙ e)
 
 -- a place that is small, and a row with a small number and place
 Small : Option ℕ → Type 0
-Small o = (x : ℕ) → o ≡ some x → x ≤ 10000
+Small o = (x : ℕ) → o ≡ Some x → x ≤ 10000
 
 RowIn : Row → Type 0
 RowIn (k at o) = (k ≤ 25) × Small o
@@ -142,20 +144,20 @@ unfolding whole Small
 whole_in true x e = omega (arith, some-injective 0 x e)
 whole_in false x e = absurd (none-ne-some x e)
 
-shift_in : (a : ℕ) (o : Option ℕ) (x : ℕ) → ((y : ℕ) → o ≡ some y → y ≤ 9000) → a ≤ 64 → map (λ k. a + k) o ≡ some x → x ≤ 10000
-shift_in a none x h s e = absurd (none-ne-some x e)
-shift_in a (some y) x h s e = omega (arith, h y refl, some-injective (a + y) x e)
+shift_in : (a : ℕ) (o : Option ℕ) (x : ℕ) → ((y : ℕ) → o ≡ Some y → y ≤ 9000) → a ≤ 64 → option_map (λ k. a + k) o ≡ Some x → x ≤ 10000
+shift_in a None x h s e = absurd (none-ne-some x e)
+shift_in a (Some y) x h s e = omega (arith, h y refl, some-injective (a + y) x e)
 
-core_in : (o : Option ℕ) → ((y : ℕ) → o ≡ some y → y ≤ 9000) → Small (core o)
+core_in : (o : Option ℕ) → ((y : ℕ) → o ≡ Some y → y ≤ 9000) → Small (core o)
 unfolding core Small
 core_in o h x e = shift_in 64 o x h (omega arith) e
 
-offset_in : (o : Option ℕ) → ((y : ℕ) → o ≡ some y → y ≤ 9000) → Small (offset o)
+offset_in : (o : Option ℕ) → ((y : ℕ) → o ≡ Some y → y ≤ 9000) → Small (offset o)
 unfolding offset Small
 offset_in o h x e = shift_in 8 o x h (omega arith) e
 
 -- a search among tasks, cores or spare bytes
-found_in : (q : ℕ → Bool) (n : ℕ) → n ≤ 255 → (x : ℕ) → find q (numbers 0 n) ≡ some x → x ≤ 9000
+found_in : (q : ℕ → Bool) (n : ℕ) → n ≤ 255 → (x : ℕ) → find q (numbers 0 n) ≡ Some x → x ≤ 9000
 found_in q n h x e = omega (arith, find_in (λ i. i < 0 + n) q (numbers 0 n) x (numbers_in 0 n) e)
 
 place_in : (q : ℕ → Bool) (n : ℕ) → n ≤ 255 → Small (find q (numbers 0 n))
@@ -226,11 +228,11 @@ rules_in s b =
     (each_append RowIn (spare_rows (is_grouped s) (is_stroked s) (task_count s) (core_count s) s (drop 8 s)) _ (spare_in (is_grouped s) (is_stroked s) (task_count s) (core_count s) s (drop 8 s) n c)
     (each_append RowIn (task_rows o f) _ (tasks_in f n c o) (each_append RowIn (core_rows f) (fit_rows f) (cores_in f n c) (fits_in f n c))))
 
-scan_in : (rows : List Row) (r : Refused) → Each RowIn rows → scan rows ≡ some r → (r.number ≤ 25) × (r.place ≤ 10000)
+scan_in : (rows : List Row) (r : Refused) → Each RowIn rows → scan rows ≡ Some r → (r.number ≤ 25) × (r.place ≤ 10000)
 unfolding Each RowIn Small scan
 scan_in [] r h e = absurd (none-ne-some r e)
-scan_in ((k at none) ∷ rows) r h e = scan_in rows r h.1 e
-scan_in ((k at some x) ∷ rows) r h e = subst (λ (t : Refused). (t.number ≤ 25) × (t.place ≤ 10000)) (some-injective _ r e) (h.0.0, h.0.1 x refl)
+scan_in ((k at None) ∷ rows) r h e = scan_in rows r h.1 e
+scan_in ((k at Some x) ∷ rows) r h e = subst (λ (t : Refused). (t.number ≤ 25) × (t.place ≤ 10000)) (some-injective _ r e) (h.0.0, h.0.1 x refl)
 
 -- The text of any bytes is at most 8,192 bytes long.
 pub listing_short : (s : List ℕ) → Each (λ b. b < 256) s → length (listing_of s) ≤ 8192
@@ -238,7 +240,7 @@ unfolding listing_of text_of verdict outcome
 listing_short s b = by (scan (rules s)) refl
   where
     by : (o : Option Refused) → scan (rules s) ≡ o → length (text_of (outcome o (task_count s) (core_count s)) s) ≤ 8192
-    by none e = accepted_short s ((accepted_exactly s (task_count s) (core_count s)).0 (rw e refl)).0
-    by (some r) e =
+    by None e = accepted_short s ((accepted_exactly s (task_count s) (core_count s)).0 (rw e refl)).0
+    by (Some r) e =
         let w = scan_in (rules s) r (rules_in s b) e in
         le_trans (refused_short r.number r.place (omega (arith, w.0)) (omega (arith, w.1))) (omega arith)

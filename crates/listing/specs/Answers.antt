@@ -1,8 +1,9 @@
 -- What the listing call answers, and what the lent buffer then holds (docs/SHEET.md, section 8).
 use Rattle.std.specs.Prelude.{ℕ, cond, List, length, ltb}
 use Rattle.fit.specs.Lists.{over}
-use Rattle.listing.specs.declared.Listed.{Listed}
-use Rattle.listing.specs.declared.Listed.TheVariants.{Written, Tight}
+use Rattle.std.specs.Prelude.{Result, Ok, Err}
+use Rattle.sheet.specs.Refusals.{number_of}
+use Rattle.sheet.specs.declared.Rejection.{Rejection}
 use Rattle.listing.specs.Listing.{listing_of}
 
 -- the length of the text, or a refusal's number and place
@@ -18,7 +19,7 @@ listed s out = cond (ltb (length out) 8192) (refused 16 0) (written (length (lis
 unfoldable pub holding : List ℕ → List ℕ → List ℕ
 holding s out = cond (ltb (length out) 8192) out (over (listing_of s) out)
 
--- the code's answer as an answer of the definitions: Tight is 16 with place 0
-abbrev pub answer_of : Listed → Answer
-answer_of (Written n) = written n
-answer_of Tight = refused 16 0
+-- the code's answer as an answer of the definitions: a word stands for its number
+abbrev pub answer_of : Result ℕ (Rejection ℕ) → Answer
+answer_of (Ok n) = written n
+answer_of (Err r) = refused (number_of r.word) r.place

@@ -17,15 +17,8 @@ ghost use Rattle.listing.specs.Listing.{field, header_line, task_line, thousandt
 ghost use Rattle.listing.specs.Steps.{Put, Capped, one_tick};
 ghost use Rattle.listing.specs.Answers.{listed, holding, answer_of};
 
-use checker::Verdict;
-use fit::Chain;
-
-// The length of the text; Tight where the output is under 8,192 bytes.
-#[derive(Clone, Copy)]
-pub enum Listed {
-    Written(u16),
-    Tight,
-}
+use checker::Counts;
+use sheet::{Refusal, Rejection};
 
 // Writers. Each puts a text into `out` from `at` on and returns the place after it.
 
@@ -172,10 +165,9 @@ fn load_of(tasks: &[u8], cores: &[u8], on: &[u8], list: &[u8], n: u8, c: u8, k: 
     requires { Fitting (figures_with (column on.now) one_tick n c tasks.now cores.now) × (list.now ≡ order_on (figures_with (column on.now) one_tick n c tasks.now cores.now) k) × (n ≤ 64) × (k < c) }
     ensures { result ≡ load_of (figures_with (column on.now) one_tick n c tasks.now cores.now) k }
 {
-    let chain = fit::chain_of(tasks, list);
-    match chain {
-        Chain::Broken(_) => 0,
-        Chain::Whole(last) => {
+    match fit::chain_of(tasks, list) {
+        Err(_) => 0,
+        Ok(last) => {
             let load = fit::load_of(tasks, list, sheet::divisor(cores, k), last);
             in_thousandths(load, fit::product(sheet::pivot(cores, k), last))
         }
@@ -247,20 +239,17 @@ fn put_sheet(out: &mut [u8], sheet: &[u8], n: u8, c: u8) -> usize
     put_cores(out, next, &periods, tasks, cores, &on, n, c)
 }
 
-// Lists a sheet: puts the text of any bytes at the front of an output of at least 8,192 bytes, which is enough for every text.
-pub fn list_sheet(sheet: &[u8], out: &mut [u8]) -> Listed
+// Lists a sheet: puts the text of any bytes at the front of an output of at least 8,192 bytes, which is enough for every text, and returns the
+// length of the text.
+pub fn list_sheet(sheet: &[u8], out: &mut [u8]) -> Result<u16, Rejection>
     ensures { (answer_of result ≡ listed sheet.now out.old) × (out.new ≡ holding sheet.now out.old) }
 {
     if out.len() < 8192 {
-        return Listed::Tight;
+        return Err(Refusal::Tight.at(0));
     }
-    let verdict = checker::check(sheet);
-    match verdict {
-        Verdict::Refused { word, place } => {
-            Listed::Written(put_refused(out, sheet::number(word), place) as u16)
-        }
-        Verdict::Accepted { tasks, cores } => {
-            Listed::Written(put_sheet(out, sheet, tasks, cores) as u16)
-        }
-    }
+    let length = match checker::check(sheet) {
+        Err(r) => put_refused(out, u8::from(r.word), r.place),
+        Ok(Counts { tasks, cores }) => put_sheet(out, sheet, tasks, cores),
+    };
+    Ok(length as u16)
 }

@@ -5,7 +5,7 @@ use Prim.Native.Nat.{ℕ, ◌+◌, ◌-◌, ◌≤◌, ◌<◌}
 use mathlib.Core.Path.{◌≡◌, refl, ap, subst, ◌∙◌}
 use mathlib.Core.Bool.{Bool, true, false}
 use mathlib.Core.Logic.{◌⊎◌, inl, inr, ⊎_elim}
-use mathlib.Core.Option.{Option, none, some}
+use Rattle.std.specs.Prelude.{Option, None, Some}
 use mathlib.Core.List.{List, [], ◌∷◌, ◌++◌}
 use native.Mathlib.Omega.{arith}
 use borrow.Author.Tests.{leb-true, leb-false, le-ltb}
@@ -72,8 +72,8 @@ unfoldable pub response : (ℕ → ℕ) → ℕ → ℕ
 response d p = from (smallest d p)
   where
     from : Option ℕ → ℕ
-    from none = p
-    from (some t) = t
+    from None = p
+    from (Some t) = t
 
 module _ (d : ℕ → ℕ) (p : ℕ) where
   -- one or the other holds
@@ -82,19 +82,19 @@ module _ (d : ℕ → ℕ) (p : ℕ) where
   meets_or_short = by (smallest d p) refl
     where
       by : (o : Option ℕ) → smallest d p ≡ o → Meets d p (response d p) ⊎ Short d p
-      by none e = inr (λ t a b. leb-false (d t) t (find_none (met d) 1 p e t a (omega arith)))
-      by (some t) e =
+      by None e = inr (λ t a b. leb-false (d t) t (find_none (met d) 1 p e t a (omega arith)))
+      by (Some t) e =
           let r = find_some_lem (met d) 1 p t e in
           inl (rw e (record { from = (found_first (met d) 1 p t e).0; to = omega (arith, r.0); enough = leb-true (d t) t r.1 }))
 
   -- where some t meets the demand, the smallest is found, and is no larger
-  found : (t : ℕ) → Meets d p t → (s : ℕ) × (smallest d p ≡ some s) × (s ≤ t)
+  found : (t : ℕ) → Meets d p t → (s : ℕ) × (smallest d p ≡ Some s) × (s ≤ t)
   unfolding smallest met
   found t f = by (smallest d p) refl
     where
-      by : (o : Option ℕ) → smallest d p ≡ o → (s : ℕ) × (smallest d p ≡ some s) × (s ≤ t)
-      by none e = absurd (omega (arith, f.enough, leb-false (d t) t (find_none (met d) 1 p e t f.from (omega (arith, f.to)))))
-      by (some s) e =
+      by : (o : Option ℕ) → smallest d p ≡ o → (s : ℕ) × (smallest d p ≡ Some s) × (s ≤ t)
+      by None e = absurd (omega (arith, f.enough, leb-false (d t) t (find_none (met d) 1 p e t f.from (omega (arith, f.to)))))
+      by (Some s) e =
           let least : t < s → ⊥ = λ lt. omega (arith, f.enough, leb-false (d t) t ((found_first (met d) 1 p s e).1 t f.from lt)) in
           (s, e, omega (arith, least))
 
@@ -113,8 +113,8 @@ module _ (d : ℕ → ℕ) (p : ℕ) where
   positive_meets h m = ⊎_elim (λ f. f) (λ s. absurd (by (smallest d p) refl s m)) meets_or_short
     where
       by : (o : Option ℕ) → smallest d p ≡ o → Short d p → pos 0 ≤ℤ margin_from p (d p) o → ⊥
-      by none e s k = minus_negative p (d p) (s p h (omega arith)) k
-      by (some t) e s k =
+      by None e s k = minus_negative p (d p) (s p h (omega arith)) k
+      by (Some t) e s k =
           let r = find_some_lem (met d) 1 p t e in
           omega (arith, leb-true (d t) t r.1, s t (found_first (met d) 1 p t e).0 (omega (arith, r.0)))
 
@@ -131,7 +131,7 @@ module _ (d : ℕ → ℕ) (p : ℕ) where
   response_short n h k t a b = by (smallest d p) refl
     where
       by : (o : Option ℕ) → smallest d p ≡ o → t < d t
-      by none e = leb-false (d t) t (find_none (met d) 1 p e t a (omega arith))
-      by (some r) e =
+      by None e = leb-false (d t) t (find_none (met d) 1 p e t a (omega arith))
+      by (Some r) e =
           let q : response d p ≡ r = rw e in
           leb-false (d t) t ((found_first (met d) 1 p r e).1 t a (omega arith))

@@ -5,7 +5,7 @@ use Prim.Native.Nat.{ℕ, ◌+◌, ◌-◌, ◌≤◌, ◌<◌, zero-le}
 use mathlib.Core.Path.{◌≡◌, refl, sym, ap, subst, fun_ext, ◌∙◌}
 use mathlib.Core.Logic.{◌⊎◌}
 use mathlib.Core.Bool.{Bool, true, false, cond}
-use mathlib.Core.Option.{Option, none, some}
+use Rattle.std.specs.Prelude.{Option, None, Some}
 use mathlib.Core.List.{List, [], ◌∷◌, ◌++◌}
 use native.Mathlib.Omega.{arith}
 use lib.Dec.{ltb, le→leb}
@@ -82,7 +82,7 @@ state_log : (ts : List Task) → Ones ts → Form ts → (cs : List Call) → lo
 state_log ts ones form cs = log_form cs (state_of ts) (state_places ts form.count) (state_form ts form) ∙ ap (λ s. log answer next s cs) (state_plain ts) ∙ plain_log cs ts ones
 
 -- a list that is refused: no margin is answered, and no release is accepted
-refused_exact : (l : List ℕ) (r : Refused) → scan (list_rows 0 l) ≡ some r → Exact l
+refused_exact : (l : List ℕ) (r : Refused) → scan (list_rows 0 l) ≡ Some r → Exact l
 unfolding NoneBelowZero NonePending margin_answer answer_from list_state fresh_tasks Each EachPair
 refused_exact l r x = record {
   enough = λ h cs j. (rule (job_period l) cs).ends j;
@@ -106,7 +106,7 @@ refused_exact l r x = record {
     rule v cs = subst (OnTime v (job_budget l)) (sym (ap (λ o. log ask step (list_state o l) cs) x ∙ state_log [] tt form cs)) (meets_on_time (job_period l) (job_budget l) (λ j. 0) [] form tt (λ xs i ys s. absurd (split xs i ys s)) v tt cs)
 
 -- a list that breaks no rule: its tasks in priority order, and for each the smallest t, or its period
-module _ (l : List ℕ) (clear : none ≡ scan (list_rows 0 l)) where
+module _ (l : List ℕ) (clear : None ≡ scan (list_rows 0 l)) where
   abbrev p : ℕ → ℕ
   p = job_period l
 
@@ -244,8 +244,8 @@ pub exact : (l : List ℕ) → Exact l
 exact l = by (scan (list_rows 0 l)) refl
   where
     by : (o : Option Refused) → scan (list_rows 0 l) ≡ o → Exact l
-    by none x = clear_exact l (sym x)
-    by (some r) x = refused_exact l r x
+    by None x = clear_exact l (sym x)
+    by (Some r) x = refused_exact l r x
 
 -- a core that fits: each w meets the demand
 schedule_meets : (p e q M : ℕ → ℕ) (Q D : ℕ) (l : List ℕ) → Schedulable p e q M Q D l → EachMeets p e (λ i. within Q D (M i)) l

@@ -2,7 +2,7 @@
 -- Assumes nothing.
 use Prim.Native.Nat.{ℕ, ◌+◌, ◌/◌, ◌≤◌, ◌<◌}
 use mathlib.Core.Path.{◌≡◌, refl, sym, ap, fun_ext, ◌∙◌}
-use mathlib.Core.Option.{none}
+use Rattle.std.specs.Prelude.{None}
 use mathlib.Core.List.{List, [], ◌∷◌, map}
 use native.Mathlib.Omega.{arith}
 use borrow.Author.Tests.{lt-ltb, le-ltb}
@@ -81,7 +81,7 @@ module _ (l : List ℕ) (f : Finding) (e : finding_of f ≡ scan (list_rows 0 l)
       rw (← o)
 
   module _ (x : f ≡ Clear) where
-    clear : none ≡ scan (list_rows 0 l)
+    clear : None ≡ scan (list_rows 0 l)
     clear = sym (ap finding_of x) ∙ e
 
     pub margin_listed : Listed 0 l

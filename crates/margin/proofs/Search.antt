@@ -3,7 +3,7 @@
 use Prim.Native.Nat.{ℕ, ◌≤◌, ◌<◌}
 use mathlib.Core.Path.{◌≡◌, ◌∙◌}
 use mathlib.Core.Bool.{false}
-use mathlib.Core.Option.{none, some}
+use Rattle.std.specs.Prelude.{None, Some}
 use mathlib.Core.List.{List}
 use native.Mathlib.Decide.{dec_lt}
 use native.Mathlib.Omega.{arith}
@@ -36,11 +36,11 @@ module _ (ps es : List ℕ) (b t : ℕ) (u : Unmet ps es b t) where
   pub search_hit : (p r : ℕ) (m : ℤ) → t ≤ p → r ≡ demand_below ps es b t → r ≤ t → m ≡ pos p -ℤ pos t → m ≡ margin_below ps es p b
   unfolding met smallest margin_from margin_below
   search_hit p r m h e k q =
-      let z : find (met (demand_below ps es b)) (numbers 1 p) ≡ some t = find_first (met (demand_below ps es b)) 1 p t u.from (omega arith) (le-leb (demand_below ps es b t) t (omega arith)) u.none_below in
+      let z : find (met (demand_below ps es b)) (numbers 1 p) ≡ Some t = find_first (met (demand_below ps es b)) 1 p t u.from (omega arith) (le-leb (demand_below ps es b t) t (omega arith)) u.none_below in
       q ∙ rw z
 
   pub search_end : (p r : ℕ) (m : ℤ) → p < t → r ≡ demand_below ps es b p → m ≡ pos p -ℤ pos r → m ≡ margin_below ps es p b
   unfolding smallest margin_from margin_below
   search_end p r m h e q =
-      let z : find (met (demand_below ps es b)) (numbers 1 p) ≡ none = none_find (met (demand_below ps es b)) 1 p (λ s a c. u.none_below s a (omega arith)) in
+      let z : find (met (demand_below ps es b)) (numbers 1 p) ≡ None = none_find (met (demand_below ps es b)) 1 p (λ s a c. u.none_below s a (omega arith)) in
       q ∙ rw (z, e)

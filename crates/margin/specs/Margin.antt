@@ -1,7 +1,7 @@
 -- The margin of a task: how many ticks its jobs have to spare, in the worst case (docs/SHEET.md, section 11).
 -- p and e are the period and the budget by task number. The list names the tasks that share a core, in any order.
 use Rattle.std.specs.Prelude.{ℕ, ◌+◌, ◌*◌, Bool, List, leb, ℤ, pos, ◌-ℤ◌}
-use Rattle.std.proofs.Math.Option.{Option, none, some}
+use Rattle.std.specs.Prelude.{Option, None, Some}
 use Rattle.fit.specs.Lists.{numbers, find, sum, select}
 use Rattle.fit.specs.Rounding.{ceiling}
 use Rattle.fit.specs.Priority.{above}
@@ -28,8 +28,8 @@ smallest d p = find (met d) (numbers 1 p)
 
 -- a signed number: the period p minus that t, or minus the demand at the period where there is none
 unfoldable pub margin_from : ℕ → ℕ → Option ℕ → ℤ
-margin_from p d none = pos p -ℤ pos d
-margin_from p d (some t) = pos p -ℤ pos t
+margin_from p d None = pos p -ℤ pos d
+margin_from p d (Some t) = pos p -ℤ pos t
 
 -- the margin of task i among the tasks of a list
 unfoldable pub margin : (ℕ → ℕ) → (ℕ → ℕ) → List ℕ → ℕ → ℤ

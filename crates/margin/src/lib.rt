@@ -10,14 +10,7 @@ ghost use Rattle.margin.specs.Answers.{outcome_of, margin_in, margin_answer};
 ghost use Rattle.margin.specs.Exact.{Exact};
 ghost use Rattle.margin.specs.Steps.{demand_below, margin_below, Ranged, Gathered};
 
-use sheet::{Finding, Refusal};
-
-// What `margin` answers: a number of ticks, below zero where no t up to the period meets the task's demand, or a refusal.
-#[derive(Clone, Copy)]
-pub enum Slack {
-    Ticks(i32),
-    Refused { word: Refusal, place: u16 },
-}
+use sheet::{Refusal, Rejection};
 
 // The periods and budgets of the tasks that have priority over one: the first `count` places.
 #[derive(Clone, Copy)]
@@ -129,24 +122,16 @@ fn margin_of(list: &[u8], n: u8, i: u8) -> i32
 
 // The margin of a task of a job list on the bench: 5, 4, 7, 8, then 17, else a number of ticks. It is zero or more for every task exactly
 // when no run from the bench start leaves a job pending once its period has passed.
-pub fn margin(list: &[u8], number: u64) -> Slack
+pub fn margin(list: &[u8], number: u64) -> Result<i32, Rejection>
     ensures result_value { outcome_of result ≡ margin_answer list.now number }
     ensures exact { Exact list.now }
 {
-    let finding = jobs::check_list(list, 0);
-    match finding {
-        Finding::Broken(word, place) => Slack::Refused { word, place },
-        Finding::Clear => {
-            let n = list.len() / 4;
-            if (n as u64) <= number {
-                return Slack::Refused {
-                    word: Refusal::Unlisted,
-                    place: 0,
-                };
-            }
-            Slack::Ticks(margin_of(list, n as u8, number as u8))
-        }
+    jobs::check_list(list, 0)?;
+    let n = list.len() / 4;
+    if n as u64 <= number {
+        return Err(Refusal::Unlisted.at(0));
     }
+    Ok(margin_of(list, n as u8, number as u8))
 }
 
 // A margin without its sign.

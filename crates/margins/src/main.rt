@@ -2,8 +2,7 @@
 // on standard error, and then no margin is printed.
 #![tactic(auto)]
 
-use jobinput::Given;
-use margin::Slack;
+use jobinput::Lengths;
 use std::io;
 use std::io::Input as Source;
 
@@ -14,13 +13,12 @@ fn print_line(rt: &impl Print, task: u64, m: i32) -> io::Result<()> {
 
 // Prints the line of one task of a text's list, and answers whether this went well. If not, it says why.
 fn print_margin(rt: &(impl Print + Eprint), text: &[u8], list: &[u8], task: u64) -> bool {
-    let slack = margin::margin(list, task);
-    match slack {
-        Slack::Refused { word, place } => {
-            jobinput::say_refused(rt, word, place, text, false);
+    match margin::margin(list, task) {
+        Err(rejection) => {
+            jobinput::say_refused(rt, rejection, text, false);
             false
         }
-        Slack::Ticks(m) => match print_line(rt, task, m) {
+        Ok(m) => match print_line(rt, task, m) {
             Ok(()) => true,
             Err(error) => {
                 input::say_failed(rt, "standard output", error);
@@ -43,10 +41,8 @@ fn print_margins(rt: &(impl Print + Eprint), text: &[u8], list: &[u8]) {
 fn print_input(rt: &(impl Source + Print + Eprint)) {
     let mut text = [0u8; 65536];
     let mut jobs = [0u8; 256];
-    let given = jobinput::read_list(rt, &mut text, &mut jobs);
-    match given {
-        Given::Nothing => {}
-        Given::Jobs { text: t, jobs: n } => print_margins(rt, &text[..t], &jobs[..n]),
+    if let Some(Lengths { text: t, jobs: n }) = jobinput::read_list(rt, &mut text, &mut jobs) {
+        print_margins(rt, &text[..t], &jobs[..n]);
     }
 }
 

@@ -2,24 +2,16 @@
 // standard error, and then no sheet is written.
 #![tactic(auto)]
 
-use input::Input;
-use mover::Moved;
-use sheet::Refusal;
 use std::io::Input as Source;
-
-// The mover's refusal as one line.
-fn say_refused(rt: &impl Eprint, word: Refusal, place: u16) {
-    let number = sheet::number(word);
-    let _ = eprintln!(rt; "refused {number} place {place}");
-}
 
 fn write_moved(rt: &(impl Print + Eprint), sheet: &[u8]) {
     let mut out = [0u8; 712];
-    let moved = mover::move_sheet(sheet, &mut out);
-    match moved {
-        Moved::Refused { word, place } => say_refused(rt, word, place),
-        Moved::Written(length) => {
-            let end = length as usize;
+    match mover::move_sheet(sheet, &mut out) {
+        Err(rejection) => {
+            let _ = eprintln!(rt; "{rejection}");
+        }
+        Ok(length) => {
+            let end = usize::from(length);
             if let Err(error) = rt.write_all(&out[..end]) {
                 input::say_failed(rt, "standard output", error);
             }
@@ -30,10 +22,8 @@ fn write_moved(rt: &(impl Print + Eprint), sheet: &[u8]) {
 // Reads one byte more than a sheet can have. Of a longer input the rest is left unread, which changes nothing (proved as `moving_cut`).
 fn move_input(rt: &(impl Source + Print + Eprint)) {
     let mut sheet = [0u8; 713];
-    let got = input::read_input(rt, &mut sheet);
-    match got {
-        Input::Failed => {}
-        Input::Bytes(n) => write_moved(rt, &sheet[..n]),
+    if let Some(n) = input::read_input(rt, &mut sheet) {
+        write_moved(rt, &sheet[..n]);
     }
 }
 

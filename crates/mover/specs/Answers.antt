@@ -8,8 +8,8 @@ use Rattle.fit.specs.Lists.{over}
 use Rattle.checker.specs.Tests.{is_marked}
 use Rattle.checker.specs.Rules.{rules}
 use Rattle.checker.specs.Verdict as check
-use Rattle.mover.specs.declared.Moved.{Moved}
-use Rattle.mover.specs.declared.Moved.TheVariants.{Written, Refused}
+use Rattle.std.specs.Prelude.{Result, Ok, Err}
+use Rattle.sheet.specs.declared.Rejection.{Rejection}
 use Rattle.mover.specs.Moved.{moved}
 
 -- the length of the sheet that is written, or a refusal's number and place
@@ -36,6 +36,6 @@ move_output (check.refused k p) s out = out
 move_output (check.accepted n c) s out = cond (ltb (length out) 712) out (over (moved s) out)
 
 -- the code's answer as an answer of the definitions: a word stands for its number
-abbrev pub answer_of : Moved → Answer
-answer_of (Written n) = written n
-answer_of (Refused w p) = refused (number_of w) p
+abbrev pub answer_of : Result ℕ (Rejection ℕ) → Answer
+answer_of (Ok n) = written n
+answer_of (Err r) = refused (number_of r.word) r.place

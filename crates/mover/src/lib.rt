@@ -11,15 +11,8 @@ ghost use Rattle.mover.specs.Answers.{move_verdict, move_answer, move_output, an
 ghost use Rattle.mover.specs.Meaning.{Moving};
 ghost use Rattle.mover.specs.Steps.{task_bytes, core_bytes, Sized, unmovable, found, grouped_by, Arranged};
 
-use checker::Verdict;
-use sheet::Refusal;
-
-// The length of the sheet that is written, or a refusal's word and place.
-#[derive(Clone, Copy)]
-pub enum Moved {
-    Written(u16),
-    Refused { word: Refusal, place: u16 },
-}
+use checker::Counts;
+use sheet::{Refusal, Rejection};
 
 // How a sheet is laid out anew: for each new position the old one and byte 4, for each core byte 2.
 #[derive(Clone, Copy)]
@@ -231,29 +224,19 @@ fn is_unmovable(sheet: &[u8]) -> bool
     !(sheet.len() < 8) & (marked & stroked)
 }
 
-// Writes a sheet of version 1 as one of version 2, and back, into a lent buffer of at least 712 bytes. The bytes past it stay as they were.
-pub fn move_sheet(sheet: &[u8], out: &mut [u8]) -> Moved
+// Writes a sheet of version 1 as one of version 2, and back, into a lent buffer of at least 712 bytes, and returns its length. The bytes past
+// it stay as they were.
+pub fn move_sheet(sheet: &[u8], out: &mut [u8]) -> Result<u16, Rejection>
     ensures result_value { answer_of result ≡ move_answer (move_verdict sheet.now) sheet.now (length out.old) }
     ensures out_after { out.new ≡ move_output (move_verdict sheet.now) sheet.now out.old }
     ensures moves { Moving sheet.now result out.new }
 {
     if is_unmovable(sheet) {
-        return Moved::Refused {
-            word: Refusal::Version,
-            place: 0,
-        };
+        return Err(Refusal::Version.at(0));
     }
-    let verdict = checker::check(sheet);
-    match verdict {
-        Verdict::Refused { word, place } => Moved::Refused { word, place },
-        Verdict::Accepted { tasks, cores } => {
-            if out.len() < 712 {
-                return Moved::Refused {
-                    word: Refusal::Tight,
-                    place: 0,
-                };
-            }
-            Moved::Written(write_other(out, sheet, tasks, cores))
-        }
+    let Counts { tasks, cores } = checker::check(sheet)?;
+    if out.len() < 712 {
+        return Err(Refusal::Tight.at(0));
     }
+    Ok(write_other(out, sheet, tasks, cores))
 }

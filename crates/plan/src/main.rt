@@ -6,17 +6,9 @@ ghost use Rattle.std.specs.Prelude.{◌≡◌, ◌≤◌};
 ghost use Rattle.jobtext.specs.Text.{is_digit};
 ghost use Rattle.plan.specs.Number.{longer, number_in};
 
-use jobinput::Given;
-use planner::Planned;
+use jobinput::Lengths;
 use std::env::{Env, FillError};
 use std::io::Input as Source;
-
-// What an argument is.
-#[derive(Clone, Copy)]
-enum Number {
-    Value(u64),
-    Wrong,
-}
 
 fn is_digit(b: u8) -> bool
     ensures { result ≡ is_digit b }
@@ -34,33 +26,33 @@ fn extend(x: u64, b: u8) -> u64
     if next < 1_000_000 { next } else { 1_000_000 }
 }
 
-fn read_number(text: &[u8]) -> Number
+fn read_number(text: &[u8]) -> Option<u64>
     ensures { result ≡ number_in text.now }
 {
     if text.len() == 0 {
-        return Number::Wrong;
+        return None;
     }
     let mut x = 0;
     let mut i = 0;
     while i < text.len() {
         let b = text[i];
         if !is_digit(b) {
-            return Number::Wrong;
+            return None;
         }
         let next = extend(x, b);
         x = next;
         i += 1;
     }
-    Number::Value(x)
+    Some(x)
 }
 
 // Argument i, or a number in its place where it is absent. One too long for the buffer is wrong.
-fn argument(rt: &impl Env, i: usize, absent: u64) -> Number {
+fn argument(rt: &impl Env, i: usize, absent: u64) -> Option<u64> {
     let mut text = [0u8; 4096];
     match rt.arg(i, &mut text) {
         Ok(n) => read_number(&text[..n]),
-        Err(FillError::NotPresent) => Number::Value(absent),
-        Err(FillError::TooLong) => Number::Wrong,
+        Err(FillError::NotPresent) => Some(absent),
+        Err(FillError::TooLong) => None,
     }
 }
 
@@ -71,17 +63,12 @@ fn say_usage(rt: &impl Eprint) {
 // Plans the job list of a text and writes the sheet.
 fn plan_jobs(rt: &(impl Print + Eprint), text: &[u8], jobs: &[u8], limit: u64, start: u64) {
     let mut sheet = [0u8; 712];
-    let planned = planner::plan(jobs, limit, start, &mut sheet);
-    match planned {
-        Planned::Refused { word, place } => {
-            jobinput::say_refused(rt, word, place, text, jobs.len() == 0);
+    match planner::plan(jobs, limit, start, &mut sheet) {
+        Err(rejection) => {
+            jobinput::say_refused(rt, rejection, text, jobs.is_empty());
         }
-        Planned::Written {
-            tasks: _,
-            cores: _,
-            length,
-        } => {
-            let end = length as usize;
+        Ok(planned) => {
+            let end = usize::from(planned.length);
             if let Err(error) = rt.write_all(&sheet[..end]) {
                 input::say_failed(rt, "standard output", error);
             }
@@ -92,10 +79,8 @@ fn plan_jobs(rt: &(impl Print + Eprint), text: &[u8], jobs: &[u8], limit: u64, s
 fn plan_input(rt: &(impl Source + Print + Eprint), limit: u64, start: u64) {
     let mut text = [0u8; 65536];
     let mut jobs = [0u8; 256];
-    let given = jobinput::read_list(rt, &mut text, &mut jobs);
-    match given {
-        Given::Nothing => {}
-        Given::Jobs { text: t, jobs: n } => plan_jobs(rt, &text[..t], &jobs[..n], limit, start),
+    if let Some(Lengths { text: t, jobs: n }) = jobinput::read_list(rt, &mut text, &mut jobs) {
+        plan_jobs(rt, &text[..t], &jobs[..n], limit, start);
     }
 }
 
@@ -106,11 +91,11 @@ fn main(rt: HostRuntime) {
     }
     let limit = argument(&rt, 1, 8);
     let start = argument(&rt, 2, 0);
-    let Number::Value(cores) = limit else {
+    let Some(cores) = limit else {
         say_usage(&rt);
         return;
     };
-    let Number::Value(from) = start else {
+    let Some(from) = start else {
         say_usage(&rt);
         return;
     };

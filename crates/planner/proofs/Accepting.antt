@@ -4,7 +4,7 @@ use Prim.Native.Nat.{ℕ, ◌+◌, ◌*◌, ◌≤◌, ◌<◌}
 use mathlib.Core.Path.{◌≡◌, refl, sym, ap, subst, ◌∙◌}
 use mathlib.Core.Logic.{inl}
 use mathlib.Core.Bool.{true, false, false≢true}
-use mathlib.Core.Option.{Option, none, some}
+use Rattle.std.specs.Prelude.{Option, None, Some}
 use mathlib.Core.List.{List, [], ◌∷◌, ◌++◌, map, append-nil}
 use native.Mathlib.Nat.{le_refl, le_trans}
 use native.Mathlib.Omega.{arith}
@@ -53,10 +53,10 @@ map_places (y ∷ fs) (x ∷ l) d e =
     (ap (λ (t : List ℕ). y ∷ t) (map_ext _ (λ i. at fs (place_of (λ z. eqb z i) l)) l (each_of l (λ i q. rw (ne_eqb x i q)) d.0) ∙ map_places fs l d.1 (omega arith)))
 
 -- the figures, where there are some
-some_of : (x : Option Acceleration) → is_some x ≡ true → (a : Acceleration) × (x ≡ some a)
+some_of : (x : Option Acceleration) → is_some x ≡ true → (a : Acceleration) × (x ≡ Some a)
 unfolding is_some
-some_of none h = absurd (false≢true h)
-some_of (some a) h = (a, refl)
+some_of None h = absurd (false≢true h)
+some_of (Some a) h = (a, refl)
 
 module _ (p e : ℕ → ℕ) (n limit : ℕ) (a : Assignment) (small : limit ≤ 8) (many : n ≤ 64) (period : (i : ℕ) → i < n → (1 ≤ p i) × (p i ≤ 60000)) (budget : (i : ℕ) → i < n → (1 ≤ e i) × (e i ≤ p i)) (settled : Settled p e n limit a) (placed : (i : ℕ) → i < n → at a.core i < a.cores) where
   M : ℕ → ℕ
@@ -82,14 +82,14 @@ module _ (p e : ℕ → ℕ) (n limit : ℕ) (a : Assignment) (small : limit ≤
 
   -- any functions that agree with the plan's on the tasks of core k are accepted there
   module _ (k : ℕ) (h : k < a.cores) where
-    own : (acc : Acceleration) × (core_figures p e n a.core k ≡ some acc)
+    own : (acc : Acceleration) × (core_figures p e n a.core k ≡ Some acc)
     own = some_of _ (settled.passes k h)
 
     own_figures : figures_for p e n a k ≡ own.0
     unfolding figures_for or_zeros
     own_figures = rw own.1
 
-    own_passing : first_passing (map p (on k)) (map e (on k)) ≡ some own.0
+    own_passing : first_passing (map p (on k)) (map e (on k)) ≡ Some own.0
     unfolding on core_figures
     own_passing = own.1
 
@@ -108,7 +108,7 @@ module _ (p e : ℕ → ℕ) (n limit : ℕ) (a : Assignment) (small : limit ≤
     fits : (p' e' M' : ℕ → ℕ) → Each (λ i. (p' i ≡ p i) × (e' i ≡ e i) × (M' i ≡ M i)) (on k) → Accepted p' e' M' (Q k) (D k) (on k)
     unfolding Q D
     fits p' e' M' same =
-        let passing : first_passing (map p' (on k)) (map e' (on k)) ≡ some own.0 = rw (map_ext p' p (on k) (each_of (on k) (λ i m. m.0) same), map_ext e' e (on k) (each_of (on k) (λ i m. m.1) same)) own_passing in
+        let passing : first_passing (map p' (on k)) (map e' (on k)) ≡ Some own.0 = rw (map_ext p' p (on k) (each_of (on k) (λ i m. m.0) same), map_ext e' e (on k) (each_of (on k) (λ i m. m.1) same)) own_passing in
         let factors : map M' (on k) ≡ own.0.factors = map_ext M' M (on k) (each_of (on k) (λ i m. m.2) same) ∙ own_factors in
         subst (λ (x : Acceleration). Accepted p' e' M' x.Q x.D (on k)) (sym own_figures) (passing_accepted p' e' M' (on k) own.0 passing factors)
 

@@ -3,7 +3,7 @@
 use Prim.Native.Nat.{ℕ, ◌/◌, ◌≤◌, ◌<◌}
 use mathlib.Core.Path.{◌≡◌, refl, sym, ap, ◌∙◌}
 use mathlib.Core.Bool.{Bool, true, false}
-use mathlib.Core.Option.{none, some}
+use Rattle.std.specs.Prelude.{None, Some}
 use mathlib.Core.List.{List}
 use native.Mathlib.Omega.{arith}
 use borrow.Author.Tests.{lt-ltb, le-ltb}
@@ -27,14 +27,14 @@ module _ (l : List ℕ) (limit : ℕ) (f : Finding) (e : finding_of f ≡ scan (
   list_fits = omega (arith, (clear_list limit l f e c).count)
 
   module _ (start room : ℕ) (r : Bool) (h : r ≡ bad_start (length l / 4) start) where
-    pub call_start : r ≡ true → some (record { number = 22; place = 0 }) ≡ scan (call_rows l limit start room)
+    pub call_start : r ≡ true → Some (record { number = 22; place = 0 }) ≡ scan (call_rows l limit start room)
     unfolding call_rows job_count
     call_start t = part_skip f (list_rows limit l) _ _ e c (scan_hit 22 0 _ _ (whole_true _ r h t))
 
-    pub call_tight : r ≡ false → room < 712 → some (record { number = 16; place = 0 }) ≡ scan (call_rows l limit start room)
+    pub call_tight : r ≡ false → room < 712 → Some (record { number = 16; place = 0 }) ≡ scan (call_rows l limit start room)
     unfolding call_rows job_count
     call_tight t q = part_skip f (list_rows limit l) _ _ e c (scan_skip 22 _ _ _ (whole_false _ r h t) (scan_hit 16 0 _ _ (whole_true _ (ltb room 712) refl (lt-ltb room 712 q))))
 
-    pub call_clear : r ≡ false → 712 ≤ room → none ≡ scan (call_rows l limit start room)
+    pub call_clear : r ≡ false → 712 ≤ room → None ≡ scan (call_rows l limit start room)
     unfolding call_rows job_count
     call_clear t q = part_skip f (list_rows limit l) _ _ e c (scan_skip 22 _ _ _ (whole_false _ r h t) (scan_skip 16 _ _ _ (whole_false _ (ltb room 712) refl (le-ltb room 712 q)) scan_none))

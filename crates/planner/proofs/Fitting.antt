@@ -4,7 +4,8 @@ use Prim.Native.Nat.{ℕ, suc, ◌+◌, ◌-◌, ◌≤◌, ◌<◌}
 use mathlib.Core.Path.{◌≡◌, refl, sym, ap, ap₂, ◌∙◌}
 use mathlib.Core.Logic.{◌⊎◌, inl, inr}
 use mathlib.Core.Bool.{Bool, true, false, cond}
-use mathlib.Core.Option.{Option, none, some, some-injective, none-ne-some}
+use Rattle.std.specs.Prelude.{Option, None, Some}
+use Rattle.sheet.proofs.Options.{some-injective, none-ne-some}
 use mathlib.Core.List.{List, [], ◌∷◌, ◌++◌, map}
 use native.Mathlib.Numerals.{add-one}
 use native.Mathlib.Omega.{arith}
@@ -68,8 +69,8 @@ figures_found l order core k o s r p h g e = e ∙ ap outcome (ap₂ first_passi
 -- a core takes a task if the tasks pass together
 passes_some : (x : Option Acceleration) → (outcome x).passes ≡ is_some x
 unfolding outcome is_some
-passes_some none = refl
-passes_some (some a) = refl
+passes_some None = refl
+passes_some (Some a) = refl
 
 pub taken : (p e : ℕ → ℕ) (n i k : ℕ) (core next : List ℕ) (r : Outcome) → next ≡ set core i k → r ≡ outcome (core_figures p e n next k) → r.passes ≡ takes p e n i core k
 unfolding takes
@@ -82,14 +83,14 @@ module _ (p e : ℕ → ℕ) (n limit i : ℕ) (a : Assignment) (f : Found) (h :
   core_open k q = by (find (takes p e n i a.core) (numbers 0 a.cores)) h
     where
       by : (o : Option ℕ) → found_of f ≡ o → found_of f ≡ chosen o limit a.cores
-      by none t = absurd (none-ne-some k (sym t ∙ ap found_of q))
-      by (some j) t = t
+      by None t = absurd (none-ne-some k (sym t ∙ ap found_of q))
+      by (Some j) t = t
 
-  pub core_new : f ≡ Nothing → a.cores < limit → some a.cores ≡ core_for p e n limit i a
+  pub core_new : f ≡ Nothing → a.cores < limit → Some a.cores ≡ core_for p e n limit i a
   unfolding core_for chosen
   core_new q b = rw (← h, q, lt-ltb a.cores limit b)
 
-  pub core_none : f ≡ Nothing → limit ≤ a.cores → none ≡ core_for p e n limit i a
+  pub core_none : f ≡ Nothing → limit ≤ a.cores → None ≡ core_for p e n limit i a
   unfolding core_for chosen
   core_none q b = rw (← h, q, le-ltb a.cores limit b)
 
@@ -103,23 +104,23 @@ unfolding assign
 assign_new i k a core h e = rw (e, le-ltb k a.cores h)
 
 -- the core that is found is open, or the next one and below the limit
-pub core_choice : (p e : ℕ → ℕ) (n limit i k : ℕ) (a : Assignment) → some k ≡ core_for p e n limit i a → ((k < a.cores) × (takes p e n i a.core k ≡ true)) ⊎ ((k ≡ a.cores) × (a.cores < limit))
+pub core_choice : (p e : ℕ → ℕ) (n limit i k : ℕ) (a : Assignment) → Some k ≡ core_for p e n limit i a → ((k < a.cores) × (takes p e n i a.core k ≡ true)) ⊎ ((k ≡ a.cores) × (a.cores < limit))
 unfolding core_for chosen
 core_choice p e n limit i k a h = by (find (takes p e n i a.core) (numbers 0 a.cores)) refl h
   where
-    new : (b : Bool) → ltb a.cores limit ≡ b → some k ≡ cond b (some a.cores) none → (k ≡ a.cores) × (a.cores < limit)
+    new : (b : Bool) → ltb a.cores limit ≡ b → Some k ≡ cond b (Some a.cores) None → (k ≡ a.cores) × (a.cores < limit)
     new true t q = (some-injective k a.cores q, ltb-true a.cores limit t)
     new false t q = absurd (none-ne-some k (sym q))
 
-    by : (o : Option ℕ) → find (takes p e n i a.core) (numbers 0 a.cores) ≡ o → some k ≡ chosen o limit a.cores → ((k < a.cores) × (takes p e n i a.core k ≡ true)) ⊎ ((k ≡ a.cores) × (a.cores < limit))
-    by none t q = inr (new (ltb a.cores limit) refl q)
-    by (some j) t q =
+    by : (o : Option ℕ) → find (takes p e n i a.core) (numbers 0 a.cores) ≡ o → Some k ≡ chosen o limit a.cores → ((k < a.cores) × (takes p e n i a.core k ≡ true)) ⊎ ((k ≡ a.cores) × (a.cores < limit))
+    by None t q = inr (new (ltb a.cores limit) refl q)
+    by (Some j) t q =
         let w = find_some_lem (takes p e n i a.core) 0 a.cores j t in
         let same : k ≡ j = some-injective k j q in
         rw same (inl (omega (arith, w.0), w.1))
 
 -- so no more cores are open than the limit allows
-assign_cores : (p e : ℕ → ℕ) (n limit i k : ℕ) (a : Assignment) → a.cores ≤ limit → some k ≡ core_for p e n limit i a → (assign i k a).cores ≤ limit
+assign_cores : (p e : ℕ → ℕ) (n limit i k : ℕ) (a : Assignment) → a.cores ≤ limit → Some k ≡ core_for p e n limit i a → (assign i k a).cores ≤ limit
 unfolding assign
 assign_cores p e n limit i k a h q = by (core_choice p e n limit i k a q)
   where
@@ -144,12 +145,12 @@ module _ (p e : ℕ → ℕ) (n limit : ℕ) (part : List ℕ) (from : Assignmen
 
       pub walk_stop : f ≡ Nothing → fitted (record { unplaced = At (get_or part j 0); assignment = a }) ≡ first_fit p e n limit part from
       unfolding fitted fit_by onward
-      walk_stop q = sym (walk_step none (rw q))
+      walk_stop q = sym (walk_step None (rw q))
 
       pub walk_turn : (k : ℕ) (next : Assignment) → f ≡ At k → next ≡ assign (get_or part j 0) k a → Walked p e n limit part from (j + 1) next
       unfolding onward
       walk_turn k next q s =
-          record { cores = rw s (assign_cores p e n limit (get_or part j 0) k a w.cores (sym (ap found_of q) ∙ t)); rest = walk_step (some k) (rw q) ∙ rw (s, add-one j) }
+          record { cores = rw s (assign_cores p e n limit (get_or part j 0) k a w.cores (sym (ap found_of q) ∙ t)); rest = walk_step (Some k) (rw q) ∙ rw (s, add-one j) }
 
     pub walk_end : length part ≤ j → fitted (record { unplaced = Nothing; assignment = a }) ≡ first_fit p e n limit part from
     unfolding fitted fit_by first_fit
@@ -166,8 +167,8 @@ module _ (p e : ℕ → ℕ) (n limit : ℕ) where
   fit_stop (x ∷ xs) ys a i h = by (core_for p e n limit x a) h (λ k. fit_stop xs ys (assign x k a) i)
     where
       by : (o : Option ℕ) → onward x (λ k. first_fit p e n limit xs (assign x k a)) o ≡ unplaced i → ((k : ℕ) → first_fit p e n limit xs (assign x k a) ≡ unplaced i → first_fit p e n limit (xs ++ ys) (assign x k a) ≡ unplaced i) → onward x (λ k. first_fit p e n limit (xs ++ ys) (assign x k a)) o ≡ unplaced i
-      by none q r = q
-      by (some k) q r = r k q
+      by None q r = q
+      by (Some k) q r = r k q
 
   fit_go : (xs ys : List ℕ) (a b : Assignment) → first_fit p e n limit xs a ≡ placed b → first_fit p e n limit (xs ++ ys) a ≡ first_fit p e n limit ys b
   unfolding first_fit onward
@@ -175,8 +176,8 @@ module _ (p e : ℕ → ℕ) (n limit : ℕ) where
   fit_go (x ∷ xs) ys a b h = by (core_for p e n limit x a) h (λ k. fit_go xs ys (assign x k a) b)
     where
       by : (o : Option ℕ) → onward x (λ k. first_fit p e n limit xs (assign x k a)) o ≡ placed b → ((k : ℕ) → first_fit p e n limit xs (assign x k a) ≡ placed b → first_fit p e n limit (xs ++ ys) (assign x k a) ≡ first_fit p e n limit ys b) → onward x (λ k. first_fit p e n limit (xs ++ ys) (assign x k a)) o ≡ first_fit p e n limit ys b
-      by none q r = let z : ◌≡◌ {A = ℕ} 0 1 = cc in absurd (omega arith)
-      by (some k) q r = r k q
+      by None q r = let z : ◌≡◌ {A = ℕ} 0 1 = cc in absurd (omega arith)
+      by (Some k) q r = r k q
 
   -- no more cores are open than the limit allows
   fit_cores : (xs : List ℕ) (a b : Assignment) → a.cores ≤ limit → first_fit p e n limit xs a ≡ placed b → b.cores ≤ limit
@@ -185,8 +186,8 @@ module _ (p e : ℕ → ℕ) (n limit : ℕ) where
   fit_cores (x ∷ xs) a b h q = by (core_for p e n limit x a) refl q (λ k. fit_cores xs (assign x k a) b)
     where
       by : (o : Option ℕ) → core_for p e n limit x a ≡ o → onward x (λ k. first_fit p e n limit xs (assign x k a)) o ≡ placed b → ((k : ℕ) → (assign x k a).cores ≤ limit → first_fit p e n limit xs (assign x k a) ≡ placed b → b.cores ≤ limit) → b.cores ≤ limit
-      by none t s r = let z : ◌≡◌ {A = ℕ} 0 1 = cc in absurd (omega arith)
-      by (some k) t s r = r k (assign_cores p e n limit x k a h (sym t)) s
+      by None t s r = let z : ◌≡◌ {A = ℕ} 0 1 = cc in absurd (omega arith)
+      by (Some k) t s r = r k (assign_cores p e n limit x k a h (sym t)) s
 
 -- the ring, walked once round from the start
 pub none_open : (a : Assignment) (limit : ℕ) → a ≡ unassigned → a.cores ≤ limit

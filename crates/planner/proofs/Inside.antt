@@ -2,7 +2,7 @@
 -- Assumes nothing.
 use Prim.Native.Nat.{ℕ, ◌+◌, ◌*◌, ◌≤◌}
 use mathlib.Core.Path.{◌≡◌, sym, subst}
-use mathlib.Core.Option.{Option, none, some}
+use Rattle.std.specs.Prelude.{Option, None, Some}
 use mathlib.Core.List.{List}
 use native.Mathlib.Omega.{arith}
 use lib.ListN.{length, take, drop, length-append, length-take}
@@ -24,10 +24,10 @@ module _ (r : Planned) (n c s : ℕ) (jobs out new : List ℕ) (limit start : �
       sheet = sheet_for jobs (fit_of jobs limit start)
 
       by : (f : Option Refused) (a b : ℕ) → written n c s ≡ unless f (written a b (length sheet)) → new ≡ laid_over f sheet out → s ≤ length new
-      by none a b q z =
+      by None a b q z =
           let w : s ≡ length sheet = cc in
           rw (z, length-append sheet (drop (length sheet) out)) (omega (arith, w))
-      by (some x) a b q z = let never : ◌≡◌ {A = ℕ} 0 1 = cc in absurd (omega arith)
+      by (Some x) a b q z = let never : ◌≡◌ {A = ℕ} 0 1 = cc in absurd (omega arith)
 
   -- and that front of it is as long
   pub sheet_front : s ≡ length (take s new)

@@ -3,7 +3,7 @@
 use Prim.Native.Nat.{ℕ, ◌/◌, ◌≤◌, ◌<◌, min}
 use mathlib.Core.Path.{◌≡◌, refl, sym, ap, ◌∙◌}
 use mathlib.Core.Bool.{Bool, true, false, cond, not}
-use mathlib.Core.Option.{none, some}
+use Rattle.std.specs.Prelude.{None, Some}
 use mathlib.Core.List.{List}
 use native.Mathlib.Omega.{arith}
 use borrow.Author.Tests.{ltb-false, leb-false, eqb-true, not-false}
@@ -61,7 +61,7 @@ count_small l order n p e = omega (arith, p.few)
 -- a refusal before the walk
 module _ (l : List ℕ) (limit start room : ℕ) (f : Finding) (e : finding_of f ≡ scan (call_rows l limit start room)) where
   module _ (w : Refusal) (p : ℕ) (b : f ≡ Broken w p) where
-    stops : some (record { number = number_of w; place = p }) ≡ scan (plan_rows l limit start room)
+    stops : Some (record { number = number_of w; place = p }) ≡ scan (plan_rows l limit start room)
     unfolding plan_rows
     stops = scan_first (call_rows l limit start room) _ _ (sym (ap finding_of b) ∙ e)
 
@@ -75,7 +75,7 @@ module _ (l : List ℕ) (limit start room : ℕ) (f : Finding) (e : finding_of f
 
   -- what the call is where nothing is refused before the walk
   module _ (c : f ≡ Clear) where
-    clear : none ≡ scan (call_rows l limit start room)
+    clear : None ≡ scan (call_rows l limit start room)
     clear = sym (ap finding_of c) ∙ e
 
     list_clear : Listed limit l
@@ -121,7 +121,7 @@ module _ (l : List ℕ) (limit start room : ℕ) (f : Finding) (e : finding_of f
         unfolding fitted fit_by
         no_fit_lem = rw u at t
 
-        unfit : some (record { number = 15; place = i }) ≡ scan (plan_rows l limit start room)
+        unfit : Some (record { number = 15; place = i }) ≡ scan (plan_rows l limit start room)
         unfolding plan_rows no_fit
         unfit = scan_second (call_rows l limit start room) _ _ clear (scan_hit 15 i _ _ (rw (← no_fit_lem)))
 
@@ -141,7 +141,7 @@ module _ (l : List ℕ) (limit start room : ℕ) (f : Finding) (e : finding_of f
         pub assigned_all : Assigned l w.assignment
         assigned_all = (fit_settled l limit start w.assignment list_clear placed_all).1
 
-        fit : none ≡ scan (plan_rows l limit start room)
+        fit : None ≡ scan (plan_rows l limit start room)
         unfolding plan_rows no_fit
         fit = scan_second (call_rows l limit start room) _ _ clear (scan_skip 15 _ _ _ (rw placed_all) scan_none)
 

@@ -3,7 +3,7 @@
 use Prim.Native.Nat.{ℕ, suc, ◌+◌, ◌≤◌, ◌<◌}
 use mathlib.Core.Path.{◌≡◌, refl, ap, ◌∙◌}
 use mathlib.Core.Bool.{cond}
-use mathlib.Core.Option.{Option, none, some}
+use Rattle.std.specs.Prelude.{Option, None, Some}
 use mathlib.Core.List.{List, [], ◌∷◌}
 use native.Mathlib.Nat.{add-zero, zero-add}
 use native.Mathlib.Decide.{ℕ_discrete}
@@ -59,8 +59,8 @@ spread_at own (j ∷ l) m factors i q d o = by (ℕ_discrete j i) (spread_at own
 -- a core's outcome holds its figures, and zeros where there are none
 outcome_figures : (x : Option Acceleration) → (outcome x).figures ≡ written (or_zeros x)
 unfolding outcome or_zeros
-outcome_figures none = refl
-outcome_figures (some a) = refl
+outcome_figures None = refl
+outcome_figures (Some a) = refl
 
 -- the figures of the cores below k, and the factors of their tasks
 pub record Rating (l core : List ℕ) (k : ℕ) (pivots divisors factors : List ℕ) : Type 0 where

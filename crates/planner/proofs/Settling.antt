@@ -4,7 +4,7 @@ use Prim.Native.Nat.{ℕ, ◌+◌, ◌≤◌, ◌<◌}
 use mathlib.Core.Path.{◌≡◌, refl, sym, ap, subst, ◌∙◌}
 use mathlib.Core.Logic.{◌⊎◌, inl, inr, ⊎_elim}
 use mathlib.Core.Bool.{true}
-use mathlib.Core.Option.{Option, none, some}
+use Rattle.std.specs.Prelude.{Option, None, Some}
 use mathlib.Core.List.{List, [], ◌∷◌, ◌++◌, map}
 use native.Mathlib.Decide.{ℕ_discrete}
 use native.Mathlib.Omega.{arith}
@@ -119,7 +119,7 @@ module _ (p e : ℕ → ℕ) (n limit : ℕ) (small : limit ≤ 8) (many : n ≤
         none_there : (j : ℕ) → j < n → at a.core j ≡ k → ⊥
         none_there j b c = ⊎_elim (λ x. omega arith) (λ x. omega arith) (s.core j b)
 
-    step : some k ≡ core_for p e n limit i a → Settled p e n limit (assign i k a) × (k < (assign i k a).cores) × (a.cores ≤ (assign i k a).cores) × ((assign i k a).core ≡ set a.core i k)
+    step : Some k ≡ core_for p e n limit i a → Settled p e n limit (assign i k a) × (k < (assign i k a).cores) × (a.cores ≤ (assign i k a).cores) × ((assign i k a).core ≡ set a.core i k)
     unfolding takes assign
     step q = by (core_choice p e n limit i k a q)
       where
@@ -136,8 +136,8 @@ module _ (p e : ℕ → ℕ) (n limit : ℕ) (small : limit ≤ 8) (many : n ≤
   walked (i ∷ l) a b s f q = by (core_for p e n limit i a) refl q (λ k. walked l (assign i k a) b)
     where
       by : (o : Option ℕ) → core_for p e n limit i a ≡ o → onward i (λ k. first_fit p e n limit l (assign i k a)) o ≡ placed b → ((k : ℕ) → Settled p e n limit (assign i k a) → Fresh n l (assign i k a) → first_fit p e n limit l (assign i k a) ≡ placed b → Settled p e n limit b × Each (λ i. at b.core i < b.cores) l × ((j : ℕ) → at (assign i k a).core j < (assign i k a).cores → at b.core j < b.cores)) → Settled p e n limit b × ((at b.core i < b.cores) × Each (λ i. at b.core i < b.cores) l) × ((j : ℕ) → at a.core j < a.cores → at b.core j < b.cores)
-      by none t z r = let no_fit_lem : ◌≡◌ {A = ℕ} 0 1 = cc in absurd (omega arith)
-      by (some k) t z r =
+      by None t z r = let no_fit_lem : ◌≡◌ {A = ℕ} 0 1 = cc in absurd (omega arith)
+      by (Some k) t z r =
           let free : (i < n) × (at a.core i ≡ 255) = f.free.0 in
           let (s', low, more, core) = step a s i k free.0 free.1 (sym t) in
           let room : i < length a.core = omega (arith, s.size, free.0) in

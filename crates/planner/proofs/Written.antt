@@ -2,7 +2,7 @@
 -- Assumes nothing.
 use Prim.Native.Nat.{ℕ, ◌<◌}
 use mathlib.Core.Path.{◌≡◌, refl, sym, ap}
-use mathlib.Core.Option.{Option, none, some}
+use Rattle.std.specs.Prelude.{Option, None, Some}
 use mathlib.Core.List.{List}
 use native.Mathlib.Omega.{arith}
 use lib.ListN.{length, take, drop}
@@ -22,20 +22,20 @@ use Rattle.planner.proofs.Settling.{fit_settled}
 use Rattle.planner.proofs.Accepting.{sheet_period, sheet_budget}
 
 -- no task is without a core
-all_placed : (f : Fit) → no_fit f ≡ none → (a : Assignment) × (f ≡ placed a)
+all_placed : (f : Fit) → no_fit f ≡ None → (a : Assignment) × (f ≡ placed a)
 unfolding no_fit
 all_placed (placed a) h = (a, refl)
 all_placed (unplaced i) h = let never : ◌≡◌ {A = ℕ} 0 1 = cc in absurd (omega arith)
 
 module _ (l out : List ℕ) (limit start n c size : ℕ) (w : written n c size ≡ plan_outcome l limit start (length out)) where
   -- nothing was refused, and the answer has the length of the sheet
-  unrefused : (none ≡ scan (plan_rows l limit start (length out))) × (size ≡ length (sheet_for l (fit_of l limit start)))
+  unrefused : (None ≡ scan (plan_rows l limit start (length out))) × (size ≡ length (sheet_for l (fit_of l limit start)))
   unfolding plan_outcome unless
   unrefused = by (scan (plan_rows l limit start (length out))) _ _ w
     where
-      by : (f : Option Refused) (x y : ℕ) → written n c size ≡ unless f (written x y (length (sheet_for l (fit_of l limit start)))) → (none ≡ f) × (size ≡ length (sheet_for l (fit_of l limit start)))
-      by none x y q = (refl, cc)
-      by (some r) x y q = let never : ◌≡◌ {A = ℕ} 0 1 = cc in absurd (omega arith)
+      by : (f : Option Refused) (x y : ℕ) → written n c size ≡ unless f (written x y (length (sheet_for l (fit_of l limit start)))) → (None ≡ f) × (size ≡ length (sheet_for l (fit_of l limit start)))
+      by None x y q = (refl, cc)
+      by (Some r) x y q = let never : ◌≡◌ {A = ℕ} 0 1 = cc in absurd (omega arith)
 
   listed_here : Listed limit l
   unfolding plan_rows call_rows

@@ -1,6 +1,6 @@
 -- First fit (docs/SHEET.md, section 5). p and e are the tasks' periods and budgets by number, and n is how many there are.
 use Rattle.std.specs.Prelude.{ℕ, ◌+◌, Bool, true, false, cond, List, [], ◌∷◌, ◌++◌, map, set, take, drop, replicate, ltb}
-use Rattle.std.proofs.Math.Option.{Option, none, some}
+use Rattle.std.specs.Prelude.{Option, None, Some}
 use Rattle.fit.specs.Lists.{numbers, find, at}
 use Rattle.fit.specs.Priority.{order}
 use Rattle.figures.specs.Constructions.{Acceleration}
@@ -25,8 +25,8 @@ core_figures p e n core k = first_passing (map p (core_set p n core k)) (map e (
 
 -- there are figures
 unfoldable pub is_some : Option Acceleration → Bool
-is_some none = false
-is_some (some a) = true
+is_some None = false
+is_some (Some a) = true
 
 -- core k's tasks together with task i pass
 unfoldable pub takes : (ℕ → ℕ) → (ℕ → ℕ) → ℕ → ℕ → List ℕ → ℕ → Bool
@@ -34,8 +34,8 @@ takes p e n i core k = is_some (core_figures p e n (set core i k) k)
 
 -- the open core that was found, else the next new one if fewer than the limit are open, else none
 unfoldable pub chosen : Option ℕ → ℕ → ℕ → Option ℕ
-chosen (some k) limit cores = some k
-chosen none limit cores = cond (ltb cores limit) (some cores) none
+chosen (Some k) limit cores = Some k
+chosen None limit cores = cond (ltb cores limit) (Some cores) None
 
 -- the core for task i: the lowest open core that takes it, else a new one, else none
 unfoldable pub core_for : (ℕ → ℕ) → (ℕ → ℕ) → ℕ → ℕ → ℕ → Assignment → Option ℕ
@@ -52,8 +52,8 @@ pub data Fit : Type 0 where
 
 -- go on with the core for task i, or end with task i where there is none
 unfoldable pub onward : ℕ → (ℕ → Fit) → Option ℕ → Fit
-onward i f none = unplaced i
-onward i f (some k) = f k
+onward i f None = unplaced i
+onward i f (Some k) = f k
 
 -- each task of the walk goes to the core for it; the first for which there is none ends the walk
 unfoldable pub first_fit : (ℕ → ℕ) → (ℕ → ℕ) → ℕ → ℕ → List ℕ → Assignment → Fit

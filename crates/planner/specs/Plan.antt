@@ -1,6 +1,6 @@
 -- The planner's refusals in their order, its answer, and what it leaves in the lent buffer (docs/SHEET.md, section 5).
 use Rattle.std.specs.Prelude.{ℕ, ◌≡◌, Bool, not, cond, List, [], ◌∷◌, ◌++◌, length, take, leb, ltb, eqb}
-use Rattle.std.proofs.Math.Option.{Option, none, some}
+use Rattle.std.specs.Prelude.{Option, None, Some}
 use Rattle.sheet.specs.Refusals.{number_of}
 use Rattle.sheet.specs.Table.{Refused, Row, ◌at◌, scan, whole}
 use Rattle.fit.specs.declared.By.TheVariants.{Ring}
@@ -10,8 +10,9 @@ use Rattle.jobs.specs.Jobs.{job_count, job_period, job_budget, list_rows}
 use Rattle.checker.specs.Verdict.{verdict, accepted}
 use Rattle.planner.specs.FirstFit.{rotate, unassigned, Fit, placed, unplaced, first_fit}
 use Rattle.planner.specs.Sheet.{sheet_of}
+use Rattle.std.specs.Prelude.{Result, Ok, Err}
+use Rattle.sheet.specs.declared.Rejection.{Rejection}
 use Rattle.planner.specs.declared.Planned.{Planned}
-use Rattle.planner.specs.declared.Planned.TheVariants.{Written, Refused as Rejected}
 
 -- first fit over the ring of a job list, walked from a start
 unfoldable pub fit_of : List ℕ → ℕ → ℕ → Fit
@@ -24,8 +25,8 @@ bad_start n start = cond (eqb n 0) (not (eqb start 0)) (leb n start)
 
 -- 15 No fit: the task that finds no core
 unfoldable pub no_fit : Fit → Option ℕ
-no_fit (placed a) = none
-no_fit (unplaced i) = some i
+no_fit (placed a) = None
+no_fit (unplaced i) = Some i
 
 -- 5, 4, 7 and 8 of the job list, 22 Start, 16 Tight (room for fewer than 712 bytes): told before any core is looked for
 unfoldable pub call_rows : List ℕ → ℕ → ℕ → ℕ → List Row
@@ -51,8 +52,8 @@ pub data Outcome : Type 0 where
 
 -- the refusal that was found, else x
 unfoldable pub unless : Option Refused → Outcome → Outcome
-unless none x = x
-unless (some r) x = refused r.number r.place
+unless None x = x
+unless (Some r) x = refused r.number r.place
 
 -- the planner's answer, with an output of `room` bytes
 unfoldable pub plan_outcome : List ℕ → ℕ → ℕ → ℕ → Outcome
@@ -62,19 +63,19 @@ plan_outcome l limit start room =
 
 -- the sheet s at the front of the output, of which the bytes past the sheet stay; a refusal leaves every byte
 unfoldable pub laid_over : Option Refused → List ℕ → List ℕ → List ℕ
-laid_over none s out = over s out
-laid_over (some r) s out = out
+laid_over None s out = over s out
+laid_over (Some r) s out = out
 
 -- what the output holds after the call
 unfoldable pub plan_output : List ℕ → ℕ → ℕ → List ℕ → List ℕ
 plan_output l limit start out = laid_over (scan (plan_rows l limit start (length out))) (sheet_for l (fit_of l limit start)) out
 
 -- the code's answer as an outcome: a word stands for its number
-abbrev pub outcome_of : Planned → Outcome
-outcome_of (Written n c s) = written n c s
-outcome_of (Rejected w p) = refused (number_of w) p
+abbrev pub outcome_of : Result Planned (Rejection ℕ) → Outcome
+outcome_of (Ok r) = written r.tasks r.cores r.length
+outcome_of (Err r) = refused (number_of r.word) r.place
 
 -- the checker accepts what was written, with the counts of the answer
-abbrev pub Accepting : Planned → List ℕ → Type 0
-Accepting (Written n c s) out = verdict (take s out) ≡ accepted n c
-Accepting (Rejected w p) out = Unit {0}
+abbrev pub Accepting : Result Planned (Rejection ℕ) → List ℕ → Type 0
+Accepting (Ok r) out = verdict (take r.length out) ≡ accepted r.tasks r.cores
+Accepting (Err r) out = Unit {0}

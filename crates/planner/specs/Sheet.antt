@@ -1,6 +1,6 @@
 -- The bytes of the sheet for an assignment of tasks to cores (docs/SHEET.md, sections 2 and 5).
 use Rattle.std.specs.Prelude.{ℕ, ◌/◌, ◌%◌, List, [], ◌∷◌, ◌++◌, eqb}
-use Rattle.std.proofs.Math.Option.{Option, none, some}
+use Rattle.std.specs.Prelude.{Option, None, Some}
 use Rattle.fit.specs.Lists.{numbers, at, place_of, joined}
 use Rattle.figures.specs.Constructions.{Acceleration, no_figures}
 use Rattle.planner.specs.declared.Assignment.{Assignment}
@@ -25,8 +25,8 @@ core_record q d = two q ++ (0 ∷ 0 ∷ four d)
 
 -- the figures, or zeros where there are none
 unfoldable pub or_zeros : Option Acceleration → Acceleration
-or_zeros none = no_figures
-or_zeros (some a) = a
+or_zeros None = no_figures
+or_zeros (Some a) = a
 
 -- the figures of core k of an assignment
 unfoldable pub figures_for : (ℕ → ℕ) → (ℕ → ℕ) → ℕ → Assignment → ℕ → Acceleration

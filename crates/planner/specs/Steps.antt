@@ -1,13 +1,12 @@
 -- What the code's own steps ask and give; no public contract speaks of it.
 use Rattle.std.specs.Prelude.{ℕ, suc, ◌+◌, ◌≤◌, ◌<◌, ◌≡◌, Bool, cond, List, [], ◌∷◌, ◌++◌, map, length, take, set, get_or}
-use Rattle.sheet.specs.declared.Found.{Found}
-use Rattle.sheet.specs.declared.Found.TheVariants.{At, Nothing}
+use Rattle.std.specs.Prelude.{Result, Ok, Err}
 use Rattle.fit.specs.Lists.{at}
 use Rattle.fit.specs.declared.By.TheVariants.{Period}
 use Rattle.fit.specs.Ring.{order_by}
 use Rattle.jobs.specs.Jobs.{job_count, job_period, job_budget}
 use Rattle.planner.specs.declared.Assignment.{Assignment}
-use Rattle.planner.specs.declared.Fitted.{Fitted}
+use Rattle.planner.specs.declared.Unplaced.{Unplaced}
 use Rattle.planner.specs.declared.Rates.{Rates}
 use Rattle.planner.specs.declared.TaskSet.{TaskSet}
 use Rattle.planner.specs.FirstFit.{Fit, placed, unplaced}
@@ -23,25 +22,15 @@ pub record Assigned (l : List ℕ) (a : Assignment) : Type 0 where
   pub few : a.cores ≤ 8
   pub core : (i : ℕ) → i < job_count l → at a.core i < a.cores
 
--- the first r of the new list are the first `count` of the list, with i behind them if it belongs there; the rest is as it was
-pub record Pushed (list : List ℕ) (count i : ℕ) (belongs : Bool) (new : List ℕ) (r : ℕ) : Type 0 where
-  pub more : (count ≤ r) × (r ≤ count + 1)
-  pub front : take r new ≡ cond belongs (take count list ++ i ∷ []) (take count list)
-  pub rest : (j : ℕ) → r ≤ j → get_or new j 0 ≡ get_or list j 0
-
 -- the periods and budgets of listed tasks stand at the front of their arrays
 pub record Gathered (l tasks : List ℕ) (s : TaskSet) : Type 0 where
   pub periods : take (length tasks) s.periods ≡ map (job_period l) tasks
   pub budgets : take (length tasks) s.budgets ≡ map (job_budget l) tasks
 
--- the outcome of a walk: the task that found no core, or the assignment
-unfoldable pub fit_by : Found → Assignment → Fit
-fit_by (At i) a = unplaced i
-fit_by Nothing a = placed a
-
--- the same of what the code hands on
-unfoldable pub fitted : Fitted → Fit
-fitted f = fit_by f.unplaced f.assignment
+-- the outcome of a walk: the assignment, or the task that found no core
+abbrev pub fitted : Result Assignment Unplaced → Fit
+fitted (Ok a) = placed a
+fitted (Err e) = unplaced e.task
 
 -- factors by task number, in which the listed tasks one after the other get a core's own factors from place m on
 unfoldable pub spread : List ℕ → List ℕ → ℕ → List ℕ → List ℕ

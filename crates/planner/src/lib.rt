@@ -2,7 +2,7 @@
 #![tactic(auto)]
 
 ghost use Rattle.std.specs.Prelude.{◌≡◌, length};
-ghost use Rattle.sheet.specs.Table.{scan, finding_of};
+ghost use Rattle.sheet.specs.Table.{scan, refusal_of};
 ghost use Rattle.planner.specs.Plan.{bad_start, call_rows, plan_outcome, plan_output, outcome_of, Accepting};
 
 mod sets;
@@ -10,13 +10,14 @@ mod walker;
 mod writer;
 
 use fit::By;
-use sheet::{Finding, Found, Refusal};
+use sheet::{Refusal, Rejection};
 
-// The planner's answer: the sheet's counts and length, or a refusal's word and place.
-#[derive(Clone, Copy)]
-pub enum Planned {
-    Written { tasks: u8, cores: u8, length: u16 },
-    Refused { word: Refusal, place: u16 },
+// The counts and the length of the sheet that is written.
+#[derive(Clone, Copy, Debug, PartialEq, Eq)]
+pub struct Planned {
+    pub tasks: u8,
+    pub cores: u8,
+    pub length: u16,
 }
 
 // The core of each task by number, 255 for a task that has none yet, and how many cores are open.
@@ -26,11 +27,10 @@ struct Assignment {
     cores: u8,
 }
 
-// The task that finds no core, if any, and the assignment of those before it.
-#[derive(Clone, Copy)]
-struct Fitted {
-    unplaced: Found,
-    assignment: Assignment,
+// The task that finds no core.
+#[derive(Clone, Copy, Debug, PartialEq, Eq)]
+struct Unplaced {
+    task: u8,
 }
 
 // The periods and budgets of a set of tasks in priority order.
@@ -58,50 +58,39 @@ fn is_bad_start(n: u8, start: u64) -> bool
 }
 
 // The refusals that are told before any core is looked for: 5, 4, 7, 8, 22 and 16.
-fn check_call(jobs: &[u8], limit: u64, start: u64, room: usize) -> Finding
-    ensures { finding_of result ≡ scan (call_rows jobs.now limit start room) }
+fn check_call(jobs: &[u8], limit: u64, start: u64, room: usize) -> Result<(), Rejection>
+    ensures { refusal_of result ≡ scan (call_rows jobs.now limit start room) }
 {
-    let found = jobs::check_list(jobs, limit);
-    if let Finding::Broken(_, _) = found {
-        return found;
-    }
+    jobs::check_list(jobs, limit)?;
     let n = (jobs.len() / 4) as u8;
     if is_bad_start(n, start) {
-        return Finding::Broken(Refusal::Start, 0);
+        return Err(Refusal::Start.at(0));
     }
     if room < 712 {
-        return Finding::Broken(Refusal::Tight, 0);
+        return Err(Refusal::Tight.at(0));
     }
-    Finding::Clear
+    Ok(())
 }
 
 // Plans a job list for at most `limit` cores from a start in the ring, and writes the sheet to the front of `out`.
-pub fn plan(jobs: &[u8], limit: u64, start: u64, out: &mut [u8]) -> Planned
+pub fn plan(jobs: &[u8], limit: u64, start: u64, out: &mut [u8]) -> Result<Planned, Rejection>
     ensures result_value { outcome_of result ≡ plan_outcome jobs.now limit start (length out.old) }
     ensures out_after { out.new ≡ plan_output jobs.now limit start out.old }
     ensures accepting { Accepting result out.new }
 {
-    let refusal = check_call(jobs, limit, start, out.len());
-    if let Finding::Broken(word, place) = refusal {
-        return Planned::Refused { word, place };
-    }
+    check_call(jobs, limit, start, out.len())?;
     let n = (jobs.len() / 4) as u8;
-    let by_period = sets::tasks_by(By::Period, jobs, n);
-    let count = by_period.count;
-    let order = by_period.tasks;
-    let fit = walker::fit_list(jobs, n, &order[..count], limit as u8, start as usize);
-    let unplaced = fit.unplaced;
-    if let Found::At(i) = unplaced {
-        return Planned::Refused {
-            word: Refusal::NoFit,
-            place: i as u16,
-        };
-    }
-    let a = fit.assignment;
-    let length = writer::write_sheet(out, jobs, n, &order[..count], a);
-    Planned::Written {
-        tasks: n,
-        cores: a.cores,
-        length,
+    let order = sets::tasks_by(By::Period, jobs, n);
+    let fit = walker::fit_list(jobs, n, order.as_slice(), limit as u8, start as usize);
+    match fit {
+        Err(Unplaced { task }) => Err(Refusal::NoFit.at(u16::from(task))),
+        Ok(a) => {
+            let length = writer::write_sheet(out, jobs, n, order.as_slice(), a);
+            Ok(Planned {
+                tasks: n,
+                cores: a.cores,
+                length,
+            })
+        }
     }
 }

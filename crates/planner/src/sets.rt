@@ -3,14 +3,13 @@ ghost use Rattle.std.specs.Prelude.{◌≡◌, ◌<◌, ◌≤◌, length, set};
 ghost use Rattle.fit.specs.Priority.{is_on};
 ghost use Rattle.fit.specs.Lists.{select, at};
 ghost use Rattle.fit.specs.Ring.{order_by};
-ghost use Rattle.fit.specs.Answers.{Ordered};
 ghost use Rattle.jobs.specs.Jobs.{job_count, job_period, job_budget};
 ghost use Rattle.figures.specs.Answers.{outcome};
 ghost use Rattle.planner.specs.FirstFit.{core_figures};
-ghost use Rattle.planner.specs.Steps.{Prioritized, Assigned, Pushed, Gathered, spread as spreadOver, Rated};
+ghost use Rattle.planner.specs.Steps.{Prioritized, Assigned, Gathered, spread as spreadOver, Rated};
 
 use crate::{Assignment, Rates, TaskSet};
-use figures::Outcome;
+use figures::CoreFigures;
 use fit::{By, Order};
 
 // The core of task i; 0 past the end.
@@ -23,39 +22,24 @@ fn core_of(cores: [u8; 64], i: u8) -> u8
     0
 }
 
-// Puts i behind the first `count` of a list, if it belongs there. Returns how many there are then.
-fn push(list: &mut [u8], count: usize, i: u8, belongs: bool) -> usize
-    requires { count < length list.old }
-    ensures { Pushed list.old count i belongs list.new result }
-{
-    if !belongs {
-        return count;
-    }
-    list[count] = i;
-    count + 1
-}
-
 // The tasks of core k in priority order.
 fn tasks_on(order: &[u8], cores: [u8; 64], k: u8) -> Order
     requires { length order.now ≤ 64 }
-    ensures { Ordered (select (is_on (at cores) k) order.now) result }
+    ensures { result.items ≡ select (is_on (at cores) k) order.now }
 {
-    let mut list = [0u8; 64];
-    let mut count = 0;
-    let mut j = 0;
-    while j < order.len() {
-        let i = order[j];
-        let next = push(&mut list, count, i, core_of(cores, i) == k);
-        count = next;
-        j += 1;
+    let mut list = Order::new();
+    for &i in order {
+        if core_of(cores, i) == k {
+            list.push(i);
+        }
     }
-    Order { count, tasks: list }
+    list
 }
 
 // All tasks in priority order or in ring order.
 pub(crate) fn tasks_by(by: By, jobs: &[u8], n: u8) -> Order
     requires { (n ≡ job_count jobs.now) × (n ≤ 64) }
-    ensures { Ordered (order_by by (job_period jobs.now) (job_count jobs.now)) result }
+    ensures { result.items ≡ order_by by (job_period jobs.now) (job_count jobs.now) }
 {
     jobs::in_order(by, jobs, n)
 }
@@ -78,17 +62,15 @@ fn task_set(jobs: &[u8], list: &[u8]) -> TaskSet
 }
 
 // The figures of core k, if its tasks pass.
-pub(crate) fn figures_on(jobs: &[u8], order: &[u8], cores: [u8; 64], k: u8) -> Outcome
+pub(crate) fn figures_on(jobs: &[u8], order: &[u8], cores: [u8; 64], k: u8) -> Option<CoreFigures>
     requires { Prioritized jobs.now order.now }
     ensures { result ≡ outcome (core_figures (job_period jobs.now) (job_budget jobs.now) (job_count jobs.now) cores k) }
 {
-    let tasks = tasks_on(order, cores, k);
-    let count = tasks.count;
-    let list = tasks.tasks;
-    let found = task_set(jobs, &list[..count]);
+    let list = tasks_on(order, cores, k);
+    let found = task_set(jobs, list.as_slice());
     let periods = found.periods;
     let budgets = found.budgets;
-    figures::first_passing(&periods[..count], &budgets[..count])
+    figures::first_passing(&periods[..list.len()], &budgets[..list.len()])
 }
 
 // The factors with that of task i.
@@ -129,16 +111,12 @@ pub(crate) fn rates_of(jobs: &[u8], order: &[u8], a: Assignment) -> Rates
     let mut factors = [0u32; 64];
     let mut k = 0;
     while k < opened {
-        let tasks = tasks_on(order, cores, k);
-        let count = tasks.count;
-        let list = tasks.tasks;
-        let found = figures_on(jobs, order, cores, k);
-        let figures = found.figures;
-        let own = figures.factors;
-        pivots[k as usize] = figures.pivot;
-        divisors[k as usize] = figures.divisor;
-        let next = spread(factors, &list[..count], own);
-        factors = next;
+        if let Some(figures) = figures_on(jobs, order, cores, k) {
+            let list = tasks_on(order, cores, k);
+            pivots[k as usize] = figures.pivot;
+            divisors[k as usize] = figures.divisor;
+            factors = spread(factors, list.as_slice(), figures.factors);
+        }
         k += 1;
     }
     Rates {

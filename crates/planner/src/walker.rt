@@ -1,15 +1,13 @@
 // First fit over the ring, walked once round from the start. `order` and `cores` as in `sets`.
 ghost use Rattle.std.specs.Prelude.{◌≡◌, ◌≤◌, length, set};
-ghost use Rattle.sheet.specs.Table.{found_of};
 ghost use Rattle.fit.specs.Lists.{numbers, find};
 ghost use Rattle.jobs.specs.Jobs.{job_count, job_period, job_budget};
 ghost use Rattle.planner.specs.FirstFit.{rotate, unassigned as noneAssigned, takes, core_for, assign, first_fit};
 ghost use Rattle.planner.specs.Plan.{fit_of};
 ghost use Rattle.planner.specs.Steps.{Prioritized, fitted};
 
-use crate::{Assignment, Fitted, sets};
+use crate::{Assignment, Unplaced, sets};
 use fit::By;
-use sheet::Found;
 
 // The cores with task i on core k.
 fn with_core(cores: [u8; 64], i: u8, k: u8) -> [u8; 64]
@@ -28,39 +26,39 @@ fn is_taken(jobs: &[u8], order: &[u8], cores: [u8; 64], i: u8, k: u8) -> bool
     ensures { result ≡ takes (job_period jobs.now) (job_budget jobs.now) (job_count jobs.now) i cores k }
 {
     let found = sets::figures_on(jobs, order, with_core(cores, i, k), k);
-    found.passes
+    found.is_some()
 }
 
 // The first of the open cores that takes task i.
-fn first_open(jobs: &[u8], order: &[u8], cores: [u8; 64], opened: u8, i: u8) -> Found
+fn first_open(jobs: &[u8], order: &[u8], cores: [u8; 64], opened: u8, i: u8) -> Option<u8>
     requires { Prioritized jobs.now order.now }
-    ensures { found_of result ≡ find (takes (job_period jobs.now) (job_budget jobs.now) (job_count jobs.now) i cores) (numbers 0 opened) }
+    ensures { result ≡ find (takes (job_period jobs.now) (job_budget jobs.now) (job_count jobs.now) i cores) (numbers 0 opened) }
 {
     let mut k = 0;
     while k < opened {
         if is_taken(jobs, order, cores, i, k) {
-            return Found::At(k);
+            return Some(k);
         }
         k += 1;
     }
-    Found::Nothing
+    None
 }
 
 // The core for task i: the first that takes it, or a new one below the limit.
-fn core_for(jobs: &[u8], order: &[u8], limit: u8, a: Assignment, i: u8) -> Found
+fn core_for(jobs: &[u8], order: &[u8], limit: u8, a: Assignment, i: u8) -> Option<u8>
     requires { Prioritized jobs.now order.now }
-    ensures { found_of result ≡ core_for (job_period jobs.now) (job_budget jobs.now) (job_count jobs.now) limit i a }
+    ensures { result ≡ core_for (job_period jobs.now) (job_budget jobs.now) (job_count jobs.now) limit i a }
 {
     let cores = a.core;
     let opened = a.cores;
     let found = first_open(jobs, order, cores, opened, i);
-    if let Found::At(_) = found {
+    if let Some(_) = found {
         return found;
     }
     if opened < limit {
-        return Found::At(opened);
+        return Some(opened);
     }
-    Found::Nothing
+    None
 }
 
 // The assignment with task i on core k, which may be the next new one.
@@ -84,7 +82,13 @@ fn assigned(a: Assignment, i: u8, k: u8) -> Assignment
 }
 
 // First fit over a part of the walk.
-fn walk(jobs: &[u8], order: &[u8], part: &[u8], limit: u8, from: Assignment) -> Fitted
+fn walk(
+    jobs: &[u8],
+    order: &[u8],
+    part: &[u8],
+    limit: u8,
+    from: Assignment,
+) -> Result<Assignment, Unplaced>
     requires { Prioritized jobs.now order.now × (limit ≤ 8) × (from.cores ≤ limit) }
     ensures { fitted result ≡ first_fit (job_period jobs.now) (job_budget jobs.now) (job_count jobs.now) limit part.now from }
 {
@@ -94,23 +98,17 @@ fn walk(jobs: &[u8], order: &[u8], part: &[u8], limit: u8, from: Assignment) -> 
         let i = part[j];
         let found = core_for(jobs, order, limit, a, i);
         match found {
-            Found::Nothing => {
-                return Fitted {
-                    unplaced: Found::At(i),
-                    assignment: a,
-                };
+            None => {
+                return Err(Unplaced { task: i });
             }
-            Found::At(k) => {
+            Some(k) => {
                 let next = assigned(a, i, k);
                 a = next;
                 j += 1;
             }
         }
     }
-    Fitted {
-        unplaced: Found::Nothing,
-        assignment: a,
-    }
+    Ok(a)
 }
 
 fn unassigned() -> Assignment
@@ -123,26 +121,31 @@ fn unassigned() -> Assignment
 }
 
 // First fit over the ring, once round from the start.
-fn first_fit(jobs: &[u8], order: &[u8], ring: &[u8], limit: u8, start: usize) -> Fitted
+fn first_fit(
+    jobs: &[u8],
+    order: &[u8],
+    ring: &[u8],
+    limit: u8,
+    start: usize,
+) -> Result<Assignment, Unplaced>
     requires { Prioritized jobs.now order.now × (limit ≤ 8) × (start ≤ length ring.now) }
     ensures { fitted result ≡ first_fit (job_period jobs.now) (job_budget jobs.now) (job_count jobs.now) limit (rotate start ring.now) noneAssigned }
 {
-    let first = walk(jobs, order, &ring[start..], limit, unassigned());
-    let stopped = first.unplaced;
-    if let Found::At(_) = stopped {
-        return first;
-    }
-    let so_far = first.assignment;
+    let so_far = walk(jobs, order, &ring[start..], limit, unassigned())?;
     walk(jobs, order, &ring[..start], limit, so_far)
 }
 
 // First fit over the ring of a job list from a start.
-pub(crate) fn fit_list(jobs: &[u8], n: u8, order: &[u8], limit: u8, start: usize) -> Fitted
+pub(crate) fn fit_list(
+    jobs: &[u8],
+    n: u8,
+    order: &[u8],
+    limit: u8,
+    start: usize,
+) -> Result<Assignment, Unplaced>
     requires { (n ≡ job_count jobs.now) × Prioritized jobs.now order.now × (limit ≤ 8) × (start ≤ n) }
     ensures { fitted result ≡ fit_of jobs.now limit start }
 {
-    let by_ring = sets::tasks_by(By::Ring, jobs, n);
-    let count = by_ring.count;
-    let ring = by_ring.tasks;
-    first_fit(jobs, order, &ring[..count], limit, start)
+    let ring = sets::tasks_by(By::Ring, jobs, n);
+    first_fit(jobs, order, ring.as_slice(), limit, start)
 }

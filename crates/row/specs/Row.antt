@@ -7,8 +7,8 @@ use Rattle.state.specs.declared.Core.{Core}
 use Rattle.state.specs.State.{foreign}
 use Rattle.state.specs.Operations.{ask, step}
 use Rattle.row.specs.Bytes.{answer_byte}
-use Rattle.row.specs.declared.RowAnswer.{RowAnswer}
-use Rattle.row.specs.declared.RowAnswer.TheVariants.{Ticked, Refused}
+use Rattle.std.specs.Prelude.{Result, Ok, Err}
+use Rattle.sheet.specs.declared.Rejection.{Rejection}
 
 -- what a call on a row answers: every state was given its tick, or the call is refused with a number and a place and none was
 pub data Outcome : Type 0 where
@@ -16,9 +16,9 @@ pub data Outcome : Type 0 where
   refused : ℕ → ℕ → Outcome
 
 -- the code's answer as one of the definitions: a word stands for its number
-abbrev pub outcome_of : RowAnswer → Outcome
-outcome_of Ticked = ticked
-outcome_of (Refused w p) = refused (number_of w) p
+abbrev pub outcome_of : {A : Type 0} → Result A (Rejection ℕ) → Outcome
+outcome_of (Ok x) = ticked
+outcome_of (Err r) = refused (number_of r.word) r.place
 
 -- the answer to a row with n answer bytes: 24 Row with place 0 where there are fewer bytes than states, then 21 Foreign with the position
 -- of the first foreign state, else every state has its tick

@@ -11,15 +11,8 @@ ghost use Rattle.row.specs.Row.{written, outcome_of, row_outcome, row_states, ro
 ghost use Rattle.row.specs.Steps.{TickedBy};
 ghost use Rattle.row.specs.OnTime.{core_at, RowRuns};
 
-use sheet::Refusal;
-use state::{Answer, Core};
-
-// What a call on a row answers: every state was given its tick, or none was.
-#[derive(Clone, Copy)]
-pub enum RowAnswer {
-    Ticked,
-    Refused { word: Refusal, place: usize },
-}
+use sheet::{Refusal, Rejection};
+use state::{Answer, Core, Reply};
 
 // The state that a tick hands back, and its answer as a byte.
 #[derive(Clone, Copy)]
@@ -48,10 +41,8 @@ fn byte_of(answer: Answer) -> u8
     ensures { result ≡ answer_byte (answer_of answer) }
 {
     match answer {
-        Answer::Served(task) => task,
-        Answer::Idle => 255,
-        Answer::Accepted => 255,
-        Answer::Refused { word: _, place: _ } => 255,
+        Ok(Reply::Served(task)) => task,
+        _ => 255,
     }
 }
 
@@ -95,7 +86,7 @@ fn tick_each(row: &mut [Core], answers: &mut [u8])
 
 // One tick for every state of a row: 24 where there are fewer answer bytes than states, 21 with the position of the first foreign state,
 // else each state becomes what its own tick hands back, and the byte at its position is the number of the task that has the tick, or 255.
-pub fn tick_row(row: &mut [Core], answers: &mut [u8]) -> RowAnswer
+pub fn tick_row(row: &mut [Core], answers: &mut [u8]) -> Result<(), Rejection<usize>>
     ensures answer { outcome_of result ≡ row_outcome row.old (length answers.old) }
     ensures states { row.new ≡ row_states (row_outcome row.old (length answers.old)) row.old }
     ensures bytes { answers.new ≡ row_bytes (row_outcome row.old (length answers.old)) row.old answers.old }
@@ -103,18 +94,12 @@ pub fn tick_row(row: &mut [Core], answers: &mut [u8]) -> RowAnswer
 {
     let n = row.len();
     if answers.len() < n {
-        return RowAnswer::Refused {
-            word: Refusal::Row,
-            place: 0,
-        };
+        return Err(Refusal::Row.at(0));
     }
     let at = first_foreign(row);
     if at < n {
-        return RowAnswer::Refused {
-            word: Refusal::Foreign,
-            place: at,
-        };
+        return Err(Refusal::Foreign.at(at));
     }
     tick_each(row, answers);
-    RowAnswer::Ticked
+    Ok(())
 }

@@ -1,4 +1,5 @@
 pub mod Past
+pub mod Options
 pub mod Scans
 pub mod Ranges
 pub mod Exactly

@@ -1,6 +1,7 @@
 -- The two views of a sheet (docs/SHEET.md, section 12): by position, which the rules and places of the checker go by, and by task number,
 -- which priority, state, listing and the on_time rule go by. In versions 1 and 3 they are one.
-use Rattle.std.specs.Prelude.{ℕ, zero, suc, ◌+◌, ◌*◌, Bool, cond, List, drop, leb, eqb}
+use Rattle.std.specs.Prelude.{ℕ, zero, suc, ◌+◌, ◌*◌, Bool, cond, List, drop, leb, eqb, get_or}
+use Rattle.sheet.specs.declared.Records.{Records}
 use Rattle.sheet.specs.Numbers.{word}
 use Rattle.sheet.specs.Records.{Figures, core_at, number_at, count_at, stroke_at, figures_with, task_count, core_count}
 
@@ -55,6 +56,10 @@ positioned_in grouped stroked n c records =
 
 abbrev pub by_position : List ℕ → Figures
 by_position s = positioned_in (is_grouped s) (is_stroked s) (task_count s) (core_count s) (drop 8 s)
+
+-- the figures of records by position, as the code holds them
+abbrev pub figures_by : Records → Figures
+figures_by r = figures_with (λ j. get_or r.on.now j 0) (stroke_of_position r.stroked r.tasks.now) r.n r.c r.tasks.now r.cores.now
 
 -- the same figures, those of each task looked up at its position
 abbrev pub renumbered : (ℕ → ℕ) → Figures → Figures

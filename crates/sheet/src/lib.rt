@@ -9,8 +9,10 @@ ghost use Rattle.sheet.specs.Numbers.{word, long};
 ghost use Rattle.sheet.specs.Records.{period_at, budget_at, core_at, number_at, factor_at, pivot_at, count_at, divisor_at};
 ghost use Rattle.sheet.specs.Views.{is_grouped, is_stroked, stroke_of_position};
 
+use std::fmt;
+
 // The refusals by their words, in the order of their numbers (docs/SHEET.md, section 9).
-#[derive(Clone, Copy)]
+#[derive(Clone, Copy, Debug, PartialEq, Eq)]
 pub enum Refusal {
     Stub,
     Mark,
@@ -39,49 +41,61 @@ pub enum Refusal {
     Stroke,
 }
 
-// The first place at which something is found, if any.
-#[derive(Clone, Copy)]
-pub enum Found {
-    At(u8),
-    Nothing,
+// Why something is refused, and at which place: a task, 64 plus a core, an offset, or 0 (docs/SHEET.md, section 9).
+#[derive(Clone, Copy, Debug, PartialEq, Eq)]
+pub struct Rejection<P = u16> {
+    pub word: Refusal,
+    pub place: P,
 }
 
-// What a group of rules finds: none is broken, or the first that is, and its place.
-#[derive(Clone, Copy)]
-pub enum Finding {
-    Clear,
-    Broken(Refusal, u16),
+impl Refusal {
+    // The refusal with its place.
+    pub fn at<P>(self, place: P) -> Rejection<P>
+        ensures { result ≡ record { word = self; place = place } }
+    {
+        Rejection { word: self, place }
+    }
 }
 
-pub fn number(word: Refusal) -> u8
-    ensures { result ≡ number_of word }
-{
-    match word {
-        Refusal::Stub => 1,
-        Refusal::Mark => 2,
-        Refusal::Version => 3,
-        Refusal::Count => 4,
-        Refusal::Length => 5,
-        Refusal::Spare => 6,
-        Refusal::Period => 7,
-        Refusal::Budget => 8,
-        Refusal::Core => 9,
-        Refusal::Bare => 10,
-        Refusal::Factor => 11,
-        Refusal::Stretch => 12,
-        Refusal::Chain => 13,
-        Refusal::Overload => 14,
-        Refusal::NoFit => 15,
-        Refusal::Tight => 16,
-        Refusal::Unlisted => 17,
-        Refusal::Early => 18,
-        Refusal::Late => 19,
-        Refusal::Quiet => 20,
-        Refusal::Foreign => 21,
-        Refusal::Start => 22,
-        Refusal::Order => 23,
-        Refusal::Row => 24,
-        Refusal::Stroke => 25,
+impl<P: fmt::Display> fmt::Display for Rejection<P> {
+    fn fmt<W: fmt::Write>(&self, f: &mut fmt::Formatter<W>) -> fmt::Result {
+        let number = u8::from(self.word);
+        write!(f, "refused {number} place {}", self.place)
+    }
+}
+
+// The number of a refusal.
+impl From<Refusal> for u8 {
+    ghost from_gives = { λ word n. n ≡ number_of word };
+
+    fn from(word: Refusal) -> u8 {
+        match word {
+            Refusal::Stub => 1,
+            Refusal::Mark => 2,
+            Refusal::Version => 3,
+            Refusal::Count => 4,
+            Refusal::Length => 5,
+            Refusal::Spare => 6,
+            Refusal::Period => 7,
+            Refusal::Budget => 8,
+            Refusal::Core => 9,
+            Refusal::Bare => 10,
+            Refusal::Factor => 11,
+            Refusal::Stretch => 12,
+            Refusal::Chain => 13,
+            Refusal::Overload => 14,
+            Refusal::NoFit => 15,
+            Refusal::Tight => 16,
+            Refusal::Unlisted => 17,
+            Refusal::Early => 18,
+            Refusal::Late => 19,
+            Refusal::Quiet => 20,
+            Refusal::Foreign => 21,
+            Refusal::Start => 22,
+            Refusal::Order => 23,
+            Refusal::Row => 24,
+            Refusal::Stroke => 25,
+        }
     }
 }
 
@@ -160,6 +174,18 @@ pub fn offset(size: u8, i: u8) -> usize
     ensures { (result ≡ size * i) × (result ≤ 65025) }
 {
     (size as usize) * (i as usize)
+}
+
+// The records of a sheet, by position: the task records, the core records and the core of each position, of n tasks and c cores; `stroked`
+// says that byte 5 of a task record is a stroke length. `figures_by` of specs/Views.antt says what figures they are.
+#[derive(Clone, Copy)]
+pub struct Records<'a> {
+    pub stroked: bool,
+    pub tasks: &'a [u8],
+    pub cores: &'a [u8],
+    pub on: &'a [u8],
+    pub n: u8,
+    pub c: u8,
 }
 
 // The fields of task i. `tasks` is the sheet's part from byte 8.

@@ -6,20 +6,22 @@ use Rattle.timing.specs.Calls.{Call, Answer, accepted, served, idle, refused, an
 use Rattle.timing.specs.Strokes.{TickGoes}
 use Rattle.state.specs.declared.Core.{Core}
 use Rattle.state.specs.declared.Step.{Step}
-use Rattle.state.specs.declared.Answer.{Answer as CodeAnswer}
-use Rattle.state.specs.declared.Answer.TheVariants.{Accepted, Served, Idle, Refused}
+use Rattle.std.specs.Prelude.{Result, Ok, Err}
+use Rattle.sheet.specs.declared.Rejection.{Rejection}
+use Rattle.state.specs.declared.Reply.{Reply}
+use Rattle.state.specs.declared.Reply.TheVariants.{Accepted, Served, Idle}
 use Rattle.state.specs.State.{state_in, with_state, foreign}
 
 -- the code's answer as an answer of the definitions: a word stands for its number
-abbrev pub answer_of : CodeAnswer → Answer
-answer_of Accepted = accepted
-answer_of (Served j) = served j
-answer_of Idle = idle
-answer_of (Refused w p) = refused (number_of w) p
+abbrev pub answer_of : Result Reply (Rejection ℕ) → Answer
+answer_of (Ok Accepted) = accepted
+answer_of (Ok (Served j)) = served j
+answer_of (Ok Idle) = idle
+answer_of (Err r) = refused (number_of r.word) r.place
 
 -- a call that is refused with a word and a place, and hands back this state
 abbrev pub refusal : Core → Refusal → ℕ → Step
-refusal s w p = record { answer = Refused w p; core = s }
+refusal s w p = record { answer = Err (record { word = w; place = p }); core = s }
 
 -- what a call on a state answers: 21 with place 0 where the state breaks its own form, else what timing's state answers
 unfoldable pub ask : Call → Core → Answer

@@ -9,10 +9,10 @@ use Rattle.timing.specs.Tasks.{named}
 use Rattle.timing.specs.Calls.{Stroke}
 use Rattle.state.specs.declared.Core.{Core}
 use Rattle.state.specs.declared.form.Pass.{Pass}
-use Rattle.state.specs.declared.Spot.{Spot}
-use Rattle.state.specs.declared.Spot.TheVariants.{At, Refused as Missing}
+use Rattle.std.specs.Prelude.{Result, Ok, Err}
+use Rattle.sheet.specs.declared.Refusal.{Refusal}
 use Rattle.state.specs.declared.Step.{Step}
-use Rattle.state.specs.declared.Answer.TheVariants.{Accepted}
+use Rattle.state.specs.declared.Reply.TheVariants.{Accepted}
 use Rattle.state.specs.State.{tasks_of, foreign}
 
 -- a number that rises with the priority order of sound tasks
@@ -49,10 +49,10 @@ ends_foreign j r p n =
     ltb 63 p.numbers || (ltb 60000 (p.last / 64) || (ltb (ones p.seen) n || (ltb p.most r || (eqb r 0 && ltb 0 j))))
 
 -- the place of the task with a number: 21, then 17, else where it stands
-unfoldable pub spot : Core → ℕ → Spot
+unfoldable pub spot : Core → ℕ → Result ℕ Refusal
 spot s j =
     let i : ℕ = place_of (named j) (tasks_of s) in
-    cond (foreign s) (Missing Foreign) (cond (ltb i s.count) (At i) (Missing Unlisted))
+    cond (foreign s) (Err Foreign) (cond (ltb i s.count) (Ok i) (Err Unlisted))
 
 -- the state with another task at a place, and with another stroke
 abbrev pub changed : Core → ℕ → Task → Core
@@ -63,4 +63,4 @@ with_stroke s k = record { count = s.count; tasks = s.tasks; stroke_task = k.tas
 
 -- an accepted call hands the state back with a task changed
 abbrev pub acceptance : Core → ℕ → Task → Step
-acceptance s i t = record { answer = Accepted; core = changed s i t }
+acceptance s i t = record { answer = Ok Accepted; core = changed s i t }

@@ -11,7 +11,7 @@ ghost use Rattle.state.specs.State.{tasks_of, stroke_in, foreign};
 ghost use Rattle.state.specs.Operations.{refusal, Operation, Unaltered, Serves};
 ghost use Rattle.state.specs.Steps.{spot, changed, with_stroke, acceptance};
 
-use sheet::Refusal;
+use sheet::{Refusal, Rejection};
 use timing::Task;
 
 // The state of a core: its tasks are the first `count` places, in priority order; the number of the task whose stroke lasts and the ticks left
@@ -25,21 +25,16 @@ pub struct Core {
     pub stroke_left: u8,
 }
 
-// What a call answers: a start, a release or a finish is accepted, a tick goes to the task with a number or is idle, a call is refused.
-#[derive(Clone, Copy)]
-pub enum Answer {
+// What a call that is not refused answers: a start, a release or a finish is accepted, a tick goes to the task with a number or is idle.
+#[derive(Clone, Copy, Debug, PartialEq, Eq)]
+pub enum Reply {
     Accepted,
     Served(u8),
     Idle,
-    Refused { word: Refusal, place: u16 },
 }
 
-// The place of the task that a call names, or why it has none.
-#[derive(Clone, Copy)]
-enum Spot {
-    At(usize),
-    Refused(Refusal),
-}
+// What a call answers.
+pub type Answer = Result<Reply, Rejection>;
 
 // The answer of a start or an operation, and the state that it hands back.
 #[derive(Clone, Copy)]
@@ -66,17 +61,17 @@ fn first_named(core: Core, number: u64) -> usize
 }
 
 // The place of the task with this number in a state: 21, then 17, else where it stands.
-fn spot_of(core: Core, number: u64) -> Spot
+fn spot_of(core: Core, number: u64) -> Result<usize, Refusal>
     ensures { result ≡ spot core number }
 {
     if core.is_foreign() {
-        return Spot::Refused(Refusal::Foreign);
+        return Err(Refusal::Foreign);
     }
     let at = first_named(core, number);
     if core.count <= at {
-        return Spot::Refused(Refusal::Unlisted);
+        return Err(Refusal::Unlisted);
     }
-    Spot::At(at)
+    Ok(at)
 }
 
 // The task with another age and other ticks left.
@@ -129,7 +124,7 @@ pub fn refuse(core: Core, word: Refusal, place: u16) -> Step
     ensures { result ≡ refusal core word place }
 {
     Step {
-        answer: Answer::Refused { word, place },
+        answer: Err(word.at(place)),
         core,
     }
 }
@@ -161,7 +156,7 @@ fn accept(core: Core, at: usize, t: Task) -> Step
     ensures { result ≡ acceptance core at t }
 {
     Step {
-        answer: Answer::Accepted,
+        answer: Ok(Reply::Accepted),
         core: with_task(core, at, t),
     }
 }
@@ -197,8 +192,8 @@ impl Core {
     {
         let spot = spot_of(self, number);
         match spot {
-            Spot::Refused(word) => refuse(self, word, 0),
-            Spot::At(at) => {
+            Err(word) => refuse(self, word, 0),
+            Ok(at) => {
                 let t = self.tasks[at];
                 if t.age < t.period {
                     return refuse(self, Refusal::Early, t.number as u16);
@@ -218,8 +213,8 @@ impl Core {
     {
         let spot = spot_of(self, number);
         match spot {
-            Spot::Refused(word) => refuse(self, word, 0),
-            Spot::At(at) => {
+            Err(word) => refuse(self, word, 0),
+            Ok(at) => {
                 let t = self.tasks[at];
                 if t.left == 0 {
                     return refuse(self, Refusal::Quiet, t.number as u16);
@@ -267,7 +262,7 @@ impl Core {
         }
         if count <= first {
             return Step {
-                answer: Answer::Idle,
+                answer: Ok(Reply::Idle),
                 core: next,
             };
         }
@@ -278,7 +273,7 @@ impl Core {
         next.stroke_left = rest;
         next.stroke_task = stroke_number(t.number, rest);
         Step {
-            answer: Answer::Served(t.number),
+            answer: Ok(Reply::Served(t.number)),
             core: next,
         }
     }
