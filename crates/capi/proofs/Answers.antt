@@ -3,47 +3,29 @@
 use Prim.Native.Nat.{ℕ, ◌≤◌, ◌<◌}
 use mathlib.Core.Path.{◌≡◌, refl, sym, ap, ◌∙◌, subst}
 use mathlib.Core.Bool.{Bool, true, false, cond, false≢true}
-use lib.Dec.{ltb}
-use native.Mathlib.Omega.{arith}
 use mathlib.Core.List.{List}
+use lib.Dec.{ltb, lit≤}
 use lib.ListN.{take}
-use lib.IntN.{ℤ, pos}
-use lib.Signed.{mag}
-use mir.Syntax.{w32}
-use mir.Val.{to_z, of_z}
-use mir.ValLaws.{to_z-of_z}
-use lib.Dec.{lit≤}
+use native.Mathlib.Omega.{arith}
+use Rattle.std.specs.Prelude.{Result, Ok, Err}
 use Rattle.sheet.specs.declared.Refusal.{Refusal}
 use Rattle.sheet.specs.declared.Refusal.TheVariants as words
+use Rattle.sheet.specs.declared.Rejection.{Rejection}
 use Rattle.sheet.specs.Refusals.{number_of}
-use Rattle.checker.specs.declared.Verdict.{Verdict}
-use Rattle.checker.specs.declared.Verdict.TheVariants as verdicts
 use Rattle.checker.specs.Verdict as check
 use Rattle.planner.specs.declared.Planned.{Planned}
-use Rattle.planner.specs.declared.Planned.TheVariants as plans
 use Rattle.planner.specs.Plan as plan
-use Rattle.listing.specs.declared.Listed.{Listed}
-use Rattle.listing.specs.declared.Listed.TheVariants as lists
-use Rattle.listing.specs.Answers as list
-use Rattle.mover.specs.declared.Moved.{Moved}
-use Rattle.mover.specs.declared.Moved.TheVariants as moves
-use Rattle.mover.specs.Answers as move
-use Rattle.row.specs.declared.RowAnswer.{RowAnswer}
-use Rattle.row.specs.declared.RowAnswer.TheVariants as rows
-use Rattle.row.specs.Row as row
-use Rattle.margin.specs.declared.Slack.{Slack}
-use Rattle.margin.specs.declared.Slack.TheVariants as slacks
-use Rattle.margin.specs.Answers as margin
 use Rattle.timing.specs.Calls.{Call, Answer, accepted, served, idle, refused}
 use Rattle.state.specs.declared.Core.{Core}
 use Rattle.state.specs.declared.Step.{Step}
-use Rattle.state.specs.declared.Answer.{Answer as CodeAnswer}
-use Rattle.state.specs.declared.Answer.TheVariants.{Accepted, Served, Idle, Refused}
+use Rattle.state.specs.declared.Reply.{Reply}
+use Rattle.state.specs.declared.Reply.TheVariants.{Accepted, Served, Idle}
 use Rattle.state.specs.Operations.{answer_of}
 use Rattle.dispatcher.specs.Starts.{sheet_answer}
 use Rattle.dispatcher.specs.OnTime.{Kept, Timely}
+use Rattle.capi.specs.declared.PlanAnswer.{PlanAnswer}
 use Rattle.capi.specs.declared.StepAnswer.{StepAnswer}
-use Rattle.capi.specs.Answers.{checked_of, planned_of, listed_of, stepped_of, ticked_of, row_ticked_of, margined_of, moved_of}
+use Rattle.capi.specs.Answers.{planned_of, stepped_of}
 
 -- no refusal has the number 0
 pub positive : (w : Refusal) → 1 ≤ number_of w
@@ -73,103 +55,11 @@ positive words.Order = lit≤ tt
 positive words.Row = lit≤ tt
 positive words.Stroke = lit≤ tt
 
--- the checker's answer
-pub checked_accepted : (v : Verdict) (o : check.Outcome) (n c : ℕ) → check.outcome_of v ≡ o → v ≡ verdicts.Accepted n c → record { refusal = 0; place = 0; tasks = n; cores = c } ≡ checked_of o
-unfolding checked_of
-checked_accepted v o n c e h = ap checked_of (sym (ap check.outcome_of h) ∙ e)
-
-pub checked_refused : (v : Verdict) (o : check.Outcome) (w : Refusal) (k p : ℕ) → check.outcome_of v ≡ o → v ≡ verdicts.Refused w p → k ≡ number_of w → record { refusal = k; place = p; tasks = 0; cores = 0 } ≡ checked_of o
-unfolding checked_of
-checked_refused v o w k p e h r = rw r (ap checked_of (sym (ap check.outcome_of h) ∙ e))
-
--- the planner's
-pub planned_written : (v : Planned) (o : plan.Outcome) (n c s : ℕ) → plan.outcome_of v ≡ o → v ≡ plans.Written n c s → record { refusal = 0; place = 0; tasks = n; cores = c; length = s } ≡ planned_of o
+-- what a plan promises, in terms of the C answer
+pub plan_accepts : (v : Result Planned (Rejection ℕ)) (out : List ℕ) (r : PlanAnswer) → r ≡ planned_of (plan.outcome_of v) → plan.Accepting v out → r.refusal ≡ 0 → check.verdict (take r.length out) ≡ check.accepted r.tasks r.cores
 unfolding planned_of
-planned_written v o n c s e h = ap planned_of (sym (ap plan.outcome_of h) ∙ e)
-
-pub planned_refused : (v : Planned) (o : plan.Outcome) (w : Refusal) (k p : ℕ) → plan.outcome_of v ≡ o → v ≡ plans.Refused w p → k ≡ number_of w → record { refusal = k; place = p; tasks = 0; cores = 0; length = 0 } ≡ planned_of o
-unfolding planned_of
-planned_refused v o w k p e h r = rw r (ap planned_of (sym (ap plan.outcome_of h) ∙ e))
-
-pub plan_accepted : (v : Planned) (n c s : ℕ) (out : List ℕ) → plan.Accepting v out → v ≡ plans.Written n c s → check.verdict (take s out) ≡ check.accepted n c
-plan_accepted v n c s out a h = rw h at a
-
-pub plan_refused : (w : Refusal) (k : ℕ) (x y : check.Outcome) → k ≡ number_of w → k ≡ 0 → x ≡ y
-plan_refused w k x y e z = absurd (omega (arith, positive w))
-
--- the mover's
-pub move_written : (v : Moved) (o : move.Answer) (n : ℕ) → move.answer_of v ≡ o → v ≡ moves.Written n → record { refusal = 0; place = 0; length = n } ≡ moved_of o
-unfolding moved_of
-move_written v o n e h = ap moved_of (sym (ap move.answer_of h) ∙ e)
-
-pub move_refused : (v : Moved) (o : move.Answer) (w : Refusal) (k p : ℕ) → move.answer_of v ≡ o → v ≡ moves.Refused w p → k ≡ number_of w → record { refusal = k; place = p; length = 0 } ≡ moved_of o
-unfolding moved_of
-move_refused v o w k p e h q = rw q (ap moved_of (sym (ap move.answer_of h) ∙ e))
-
--- the listing's
-pub listed_written : (v : Listed) (o : list.Answer) (n : ℕ) → list.answer_of v ≡ o → v ≡ lists.Written n → record { refusal = 0; place = 0; length = n } ≡ listed_of o
-unfolding listed_of
-listed_written v o n e h = ap listed_of (sym (ap list.answer_of h) ∙ e)
-
-pub listed_tight : (v : Listed) (o : list.Answer) → list.answer_of v ≡ o → v ≡ lists.Tight → record { refusal = 16; place = 0; length = 0 } ≡ listed_of o
-unfolding listed_of
-listed_tight v o e h = ap listed_of (sym (ap list.answer_of h) ∙ e)
-
--- that of `margin`, of which the margin has been laid in the answer as bits
-pub row_ticked : (v : RowAnswer) → v ≡ rows.Ticked → record { refusal = 0; place = 0 } ≡ row_ticked_of (row.outcome_of v)
-unfolding row_ticked_of
-row_ticked v e = rw e
-
-pub row_refused : (v : RowAnswer) (w : Refusal) (k p : ℕ) → v ≡ rows.Refused w p → k ≡ number_of w → record { refusal = k; place = p } ≡ row_ticked_of (row.outcome_of v)
-unfolding row_ticked_of
-row_refused v w k p e r = rw (e, r)
-
-pub margined_ticks : (v : Slack) (o : margin.Outcome) (m : ℤ) → margin.outcome_of v ≡ o → v ≡ slacks.Ticks m → mag m < 2147483648 → record { refusal = 0; place = 0; margin = to_z w32 (of_z w32 m) } ≡ margined_of o
-unfolding margined_of
-margined_ticks v o m e h b = rw (to_z-of_z w32 m (record { sfits = b })) (ap margined_of (sym (ap margin.outcome_of h) ∙ e))
-
-pub margined_refused : (v : Slack) (o : margin.Outcome) (w : Refusal) (k p : ℕ) → margin.outcome_of v ≡ o → v ≡ slacks.Refused w p → k ≡ number_of w → record { refusal = k; place = p; margin = pos 0 } ≡ margined_of o
-unfolding margined_of
-margined_refused v o w k p e h r = rw r (ap margined_of (sym (ap margin.outcome_of h) ∙ e))
-
--- the dispatcher's, each answer of the code
-module _ (a : CodeAnswer) (s : Core) where
-  pub moved_accepted : (m : StepAnswer) → a ≡ Accepted → m ≡ record { refusal = 0; place = 0; core = s } → m ≡ stepped_of (answer_of a) s
-  unfolding stepped_of
-  moved_accepted m h e = rw h e
-
-  pub moved_served : (m : StepAnswer) (j : ℕ) → a ≡ Served j → m ≡ record { refusal = 0; place = 0; core = s } → m ≡ stepped_of (answer_of a) s
-  unfolding stepped_of
-  moved_served m j h e = rw h e
-
-  pub moved_idle : (m : StepAnswer) → a ≡ Idle → m ≡ record { refusal = 0; place = 0; core = s } → m ≡ stepped_of (answer_of a) s
-  unfolding stepped_of
-  moved_idle m h e = rw h e
-
-  pub moved_refused : (w : Refusal) (k p : ℕ) → a ≡ Refused w p → k ≡ number_of w → record { refusal = k; place = p; core = s } ≡ stepped_of (answer_of a) s
-  unfolding stepped_of
-  moved_refused w k p h r = rw (r, h)
-
-  module _ (o : Answer) (t : Core) (e : answer_of a ≡ o) (f : s ≡ t) where
-    pub ticked_served : (j : ℕ) → a ≡ Served j → record { refusal = 0; free = 0; place = 0; task = j; free1 = 0; free2 = 0; core = s } ≡ ticked_of o t
-    unfolding ticked_of
-    ticked_served j h = rw (← e, ← f, h)
-
-    pub ticked_idle : a ≡ Idle → record { refusal = 0; free = 0; place = 0; task = 255; free1 = 0; free2 = 0; core = s } ≡ ticked_of o t
-    unfolding ticked_of
-    ticked_idle h = rw (← e, ← f, h)
-
-    pub ticked_refused : (w : Refusal) (k p : ℕ) → a ≡ Refused w p → k ≡ number_of w → record { refusal = k; free = 0; place = p; task = 0; free1 = 0; free2 = 0; core = s } ≡ ticked_of o t
-    unfolding ticked_of
-    ticked_refused w k p h r = rw (← e, ← f, r, h)
-
-    pub ticked_accepted : a ≡ Accepted → record { refusal = 0; free = 0; place = 0; task = 0; free1 = 0; free2 = 0; core = s } ≡ ticked_of o t
-    unfolding ticked_of
-    ticked_accepted h = rw (← e, ← f, h)
-
--- the same with the answer and the state that the definitions give
-pub stepped_on : (m : StepAnswer) (a : CodeAnswer) (s : Core) (o : Answer) (t : Core) → m ≡ stepped_of (answer_of a) s → answer_of a ≡ o → s ≡ t → m ≡ stepped_of o t
-stepped_on m a s o t e h k = e ∙ rw (h, k)
+plan_accepts (Ok p) out r e h z = rw e h
+plan_accepts (Err x) out r e h z = absurd (omega (arith, positive x.word, ap (λ (a : PlanAnswer). a.refusal) e))
 
 -- a start that is not refused is accepted: it answers nothing else
 unfoldable pub is_start : Answer → Bool
@@ -187,12 +77,12 @@ start_answers (check.accepted n c) k = by (ltb k c)
     by false = refl
 start_answers (check.refused w p) k = refl
 
-start_accepted : (a : CodeAnswer) (s : Core) → is_start (answer_of a) ≡ true → (stepped_of (answer_of a) s).refusal ≡ 0 → answer_of a ≡ accepted
+start_accepted : (a : Result Reply (Rejection ℕ)) (s : Core) → is_start (answer_of a) ≡ true → (stepped_of (answer_of a) s).refusal ≡ 0 → answer_of a ≡ accepted
 unfolding is_start stepped_of
-start_accepted Accepted s e z = refl
-start_accepted (Served j) s e z = absurd (false≢true e)
-start_accepted Idle s e z = absurd (false≢true e)
-start_accepted (Refused w p) s e z = absurd (omega (arith, positive w))
+start_accepted (Ok Accepted) s e z = refl
+start_accepted (Ok (Served j)) s e z = absurd (false≢true e)
+start_accepted (Ok Idle) s e z = absurd (false≢true e)
+start_accepted (Err r) s e z = absurd (omega (arith, positive r.word))
 
 state : (a : Answer) (s : Core) → (stepped_of a s).core ≡ s
 unfolding stepped_of

@@ -13,21 +13,22 @@ use fit::By;
 use planner::Planned;
 use sheet::Rejection;
 use state::{Core, Reply, Step};
+use std::fmt::Display;
 
 fn print(rt: &impl Print, text: &str) {
     let _ = rt.print(text);
 }
 
 // A space and a number.
-fn print_number(rt: &impl Print, n: u64) {
+fn print_number<N: Display>(rt: &impl Print, n: N) {
     let _ = print!(rt; " {n}");
 }
 
-// A space and a refusal, which its cards have without the word for its place.
+// A refusal as the cards have it, without the word for its place.
 fn print_refused(rt: &impl Print, rejection: Rejection) {
     print(rt, " refused");
-    print_number(rt, u64::from(u8::from(rejection.word)));
-    print_number(rt, u64::from(rejection.place));
+    print_number(rt, u8::from(rejection.word));
+    print_number(rt, rejection.place);
 }
 
 // The inputs of the cards.
@@ -177,12 +178,11 @@ fn stroked_three(q: u8, r: u8) -> [u8; 46]
 // Cards A to F, O to Q, Y, AA, AC and AE: what the checker answers.
 fn check_card(rt: &impl Print, name: &str, sheet: &[u8]) {
     print(rt, name);
-    let verdict = checker::check(sheet);
-    match verdict {
+    match checker::check(sheet) {
         Ok(Counts { tasks, cores }) => {
             print(rt, " accepted");
-            print_number(rt, tasks as u64);
-            print_number(rt, cores as u64);
+            print_number(rt, tasks);
+            print_number(rt, cores);
         }
         Err(rejection) => print_refused(rt, rejection),
     }
@@ -205,47 +205,38 @@ fn within(q: u16, d: u32, m: u32) -> u64
     if d == 0 {
         return 0;
     }
-    (q as u64) * (m as u64) / (d as u64)
+    u64::from(q) * u64::from(m) / u64::from(d)
 }
 
-fn print_factors(rt: &impl Print, tasks: &[u8], n: u8) {
+// A figure of each of n tasks.
+fn print_each<N: Display, F: Fn(u8) -> N>(rt: &impl Print, n: u8, figure: F)
+    requires { F.IsAlwaysCallable figure }
+{
     for i in 0..n {
-        print_number(rt, sheet::factor(tasks, i) as u64);
-    }
-}
-
-fn print_within(rt: &impl Print, tasks: &[u8], n: u8, q: u16, d: u32) {
-    for i in 0..n {
-        print_number(rt, within(q, d, sheet::factor(tasks, i)));
+        print_number(rt, figure(i));
     }
 }
 
 // Q and D of core k.
 fn print_figures(rt: &impl Print, cores: &[u8], k: u8) {
     print(rt, " pivot");
-    print_number(rt, sheet::pivot(cores, k) as u64);
+    print_number(rt, sheet::pivot(cores, k));
     print(rt, " divisor");
-    print_number(rt, sheet::divisor(cores, k) as u64);
+    print_number(rt, sheet::divisor(cores, k));
 }
 
 // The figures of core 0 of a sheet, and the factors and w of its n tasks.
 fn print_rates(rt: &impl Print, sheet: &[u8], n: u8)
     requires { 8 + 10 * n ≤ length sheet.now }
 {
-    let at = 8 + 10 * (n as usize);
-    let tasks = &sheet[8..];
-    let cores = &sheet[at..];
+    let (tasks, cores) = sheet[8..].split_at(10 * usize::from(n));
+    let q = sheet::pivot(cores, 0);
+    let d = sheet::divisor(cores, 0);
     print_figures(rt, cores, 0);
     print(rt, " factors");
-    print_factors(rt, tasks, n);
+    print_each(rt, n, |i| sheet::factor(tasks, i));
     print(rt, " within");
-    print_within(
-        rt,
-        tasks,
-        n,
-        sheet::pivot(cores, 0),
-        sheet::divisor(cores, 0),
-    );
+    print_each(rt, n, |i| within(q, d, sheet::factor(tasks, i)));
 }
 
 // Cards G to I and R to T: what the planner makes. The length of the sheet is returned, 0 where it is refused.
@@ -260,8 +251,7 @@ fn plan_card(
     ensures { IsPrefixLen result out.new }
 {
     print(rt, name);
-    let planned = planner::plan(jobs, limit, start, out);
-    match planned {
+    match planner::plan(jobs, limit, start, out) {
         Err(rejection) => {
             print_refused(rt, rejection);
             print(rt, "\n");
@@ -270,17 +260,16 @@ fn plan_card(
         Ok(Planned { tasks, cores, .. }) => {
             print_rates(rt, out, tasks);
             print(rt, "\n");
-            8 + 10 * (tasks as usize) + 8 * (cores as usize)
+            8 + 10 * usize::from(tasks) + 8 * usize::from(cores)
         }
     }
 }
 
 // Prints a call's answer, nothing where it is only accepted, and goes on with the state that the call handed back.
 fn after(rt: &impl Print, step: Step) -> Core {
-    let answer = step.answer;
-    match answer {
+    match step.answer {
         Ok(Reply::Accepted) => {}
-        Ok(Reply::Served(task)) => print_number(rt, task as u64),
+        Ok(Reply::Served(task)) => print_number(rt, task),
         Ok(Reply::Idle) => print(rt, " idle"),
         Err(rejection) => print_refused(rt, rejection),
     }
@@ -290,8 +279,7 @@ fn after(rt: &impl Print, step: Step) -> Core {
 fn ticked(rt: &impl Print, core: Core, ticks: u8) -> Core {
     let mut state = core;
     for _ in 0..ticks {
-        let next = after(rt, state.tick());
-        state = next;
+        state = after(rt, state.tick());
     }
     state
 }
@@ -337,58 +325,38 @@ fn cards_i_to_k(rt: &impl Print) {
     card_k(rt, &out[..n]);
 }
 
-// The period of a task; 0 past the end.
-fn period_at(periods: &[u16], task: u8) -> u16 {
-    let at = task as usize;
-    if at < periods.len() {
-        return periods[at];
-    }
-    0
-}
-
 // Card M: three periods in ring order.
 fn card_m(rt: &impl Print) {
     let periods = [7u16, 16, 21];
     let ring = order::sorted(By::Ring, &periods, 3);
     print(rt, "M");
     for &i in ring.as_slice() {
-        print_number(rt, u64::from(period_at(&periods, i)));
+        if let Some(&period) = periods.get(usize::from(i)) {
+            print_number(rt, period);
+        }
     }
     print(rt, "\n");
-}
-
-fn print_cores(rt: &impl Print, tasks: &[u8], n: u8) {
-    for i in 0..n {
-        print_number(rt, sheet::core(tasks, i) as u64);
-    }
-}
-
-fn print_all_figures(rt: &impl Print, cores: &[u8], c: u8) {
-    for k in 0..c {
-        print_figures(rt, cores, k);
-    }
 }
 
 // The core and the factor of each of n tasks of a sheet, and the figures of its c cores.
 fn print_sheet(rt: &impl Print, sheet: &[u8], n: u8, c: u8)
     requires { 8 + 10 * n ≤ length sheet.now }
 {
-    let at = 8 + 10 * (n as usize);
-    let tasks = &sheet[8..];
-    let cores = &sheet[at..];
+    let (tasks, cores) = sheet[8..].split_at(10 * usize::from(n));
     print(rt, " cores");
-    print_cores(rt, tasks, n);
+    print_each(rt, n, |i| sheet::core(tasks, i));
     print(rt, " factors");
-    print_factors(rt, tasks, n);
-    print_all_figures(rt, cores, c);
+    print_each(rt, n, |i| sheet::factor(tasks, i));
+    for k in 0..c {
+        print_figures(rt, cores, k);
+    }
 }
 
 // Card N: what the planner makes with limit 2 and start 1.
 fn card_n(rt: &impl Print, jobs: &[u8]) {
     let mut out = [0u8; 712];
     print(rt, "N");
-    let planned = planner::plan(jobs, 2, 1, &mut out);
-    match planned {
+    match planner::plan(jobs, 2, 1, &mut out) {
         Err(rejection) => print_refused(rt, rejection),
         Ok(Planned { tasks, cores, .. }) => print_sheet(rt, &out, tasks, cores),
     }
@@ -406,11 +374,8 @@ fn cards_r_to_t(rt: &impl Print) {
 }
 
 fn print_margin(rt: &impl Print, jobs: &[u8], task: u64) {
-    let slack = margin::margin(jobs, task);
-    match slack {
-        Ok(m) => {
-            let _ = print!(rt; " {m}");
-        }
+    match margin::margin(jobs, task) {
+        Ok(m) => print_number(rt, m),
         Err(rejection) => print_refused(rt, rejection),
     }
 }
@@ -418,45 +383,27 @@ fn print_margin(rt: &impl Print, jobs: &[u8], task: u64) {
 // Cards V and W: the margins of three tasks, and what a fourth number answers.
 fn margin_card(rt: &impl Print, name: &str, jobs: &[u8]) {
     print(rt, name);
-    print_margin(rt, jobs, 0);
-    print_margin(rt, jobs, 1);
-    print_margin(rt, jobs, 2);
-    print_margin(rt, jobs, 3);
+    for task in 0..4 {
+        print_margin(rt, jobs, task);
+    }
     print(rt, "\n");
-}
-
-// Two slices have the same bytes.
-fn same(a: &[u8], b: &[u8]) -> bool
-    ensures { (result ≡ true → a.now ≡ b.now) × (a.now ≡ b.now → result ≡ true) }
-{
-    if a.len() != b.len() {
-        return false;
-    }
-    let mut i = 0;
-    while i < a.len() {
-        if a[i] != b[i] {
-            return false;
-        }
-        i += 1;
-    }
-    true
 }
 
 // What the mover makes of a sheet: its length, and whether it is the other sheet.
 fn print_moved(rt: &impl Print, sheet: &[u8], other: &[u8]) {
     let mut out = [0u8; 712];
-    let moved = mover::move_sheet(sheet, &mut out);
-    match moved {
+    match mover::move_sheet(sheet, &mut out) {
         Err(rejection) => print_refused(rt, rejection),
         Ok(length) => {
-            let end = length as usize;
+            let end = usize::from(length);
             print(rt, " moved");
-            print_number(rt, end as u64);
-            if same(&out[..end], other) {
-                print(rt, " same");
+            print_number(rt, end);
+            let word = if out[..end] == *other {
+                " same"
             } else {
-                print(rt, " different");
-            }
+                " different"
+            };
+            print(rt, word);
         }
     }
 }
@@ -520,13 +467,8 @@ fn strokes_cards(rt: &impl Print) {
 // The listing of a sheet.
 fn print_listing(rt: &impl Print, sheet: &[u8]) {
     let mut text = [0u8; 8192];
-    let answer = listing::list_sheet(sheet, &mut text);
-    match answer {
-        Ok(length) => {
-            let end = length as usize;
-            let _ = rt.write_all(&text[..end]);
-        }
-        Err(_) => {}
+    if let Ok(length) = listing::list_sheet(sheet, &mut text) {
+        let _ = rt.write_all(&text[..usize::from(length)]);
     }
 }
 
