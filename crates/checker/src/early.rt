@@ -1,66 +1,15 @@
 // Rules 7 to 12, 23 and 25: the figures of tasks and cores.
 ghost use Rattle.std.specs.Prelude.{◌≡◌, true, ℕ, ◌+◌, ◌*◌, ◌<◌, ◌≤◌, length};
 ghost use Rattle.sheet.specs.Table.{scan, refusal_of};
-ghost use Rattle.sheet.specs.Ranges.{bad_period, bad_budget, bad_stroke};
 ghost use Rattle.sheet.specs.Views.{figures_by};
 ghost use Rattle.fit.specs.Lists.{numbers, find, at};
-ghost use Rattle.checker.specs.Tests.{bad_core, bare, bad_factor, bad_pivot, stretched_at};
+ghost use Rattle.checker.specs.Tests.{bare};
 ghost use Rattle.checker.specs.Rules.{task_rows, core_rows};
 ghost use Rattle.checker.specs.Steps.{Used, sound_at, early_rows};
 
+use crate::faults::{is_bad_budget, is_bad_core, is_bad_factor, is_bad_period, is_bad_pivot, is_bad_stroke, is_stretched};
 use crate::rows::{refuse, refuse_core, refuse_if};
 use sheet::{Records, Refusal, Rejection};
-
-// The tests, each at one task or one core.
-
-fn is_bad_period(r: &Records, i: u8) -> bool
-    ensures { result ≡ bad_period (figures_by r.now).period i }
-{
-    sheet::out_of(60_000, u32::from(sheet::period(r.tasks, i)))
-}
-
-fn is_bad_budget(r: &Records, i: u8) -> bool
-    ensures { result ≡ bad_budget (figures_by r.now).period (figures_by r.now).budget i }
-{
-    let period = u32::from(sheet::period(r.tasks, i));
-    sheet::out_of(period, u32::from(sheet::budget(r.tasks, i)))
-}
-
-fn is_bad_stroke(r: &Records, i: u8) -> bool
-    ensures { result ≡ bad_stroke (figures_by r.now).budget (figures_by r.now).stroke i }
-{
-    let budget = u32::from(sheet::budget(r.tasks, i));
-    sheet::out_of(budget, u32::from(sheet::stroke(r.stroked, r.tasks, i)))
-}
-
-fn is_bad_core(r: &Records, i: u8) -> bool
-    ensures { result ≡ bad_core r.now.c (figures_by r.now).core i }
-{
-    r.c <= sheet::byte(r.on, usize::from(i))
-}
-
-fn is_bad_factor(r: &Records, i: u8) -> bool
-    ensures { result ≡ bad_factor (figures_by r.now).factor i }
-{
-    sheet::out_of(120_000, sheet::factor(r.tasks, i))
-}
-
-fn is_bad_pivot(r: &Records, k: u8) -> bool
-    ensures { result ≡ bad_pivot (figures_by r.now).pivot (figures_by r.now).divisor k }
-{
-    let pivot = u32::from(sheet::pivot(r.cores, k));
-    sheet::out_of(60_000, pivot) | sheet::out_of(120_000, sheet::divisor(r.cores, k))
-}
-
-fn is_stretched(r: &Records, i: u8) -> bool
-    ensures { result ≡ stretched_at (figures_by r.now) i }
-{
-    let k = sheet::byte(r.on, usize::from(i));
-    let pivot = sheet::pivot(r.cores, k);
-    let divisor = sheet::divisor(r.cores, k);
-    let period = sheet::period(r.tasks, i);
-    fit::is_stretched(pivot, divisor, period, sheet::factor(r.tasks, i))
-}
 
 // Which cores have a task, by their numbers.
 fn used_cores(on: &[u8], n: u8) -> [bool; 256]
@@ -126,6 +75,14 @@ fn is_sound(r: &Records, i: u8) -> bool
     !(ranges | is_stretched(&one, 0))
 }
 
+// Whether they are kept at every task.
+fn all_sound(r: &Records) -> bool
+    requires { (10 * r.now.n ≤ length r.now.tasks.now) × (8 * r.now.c ≤ length r.now.cores.now) }
+    ensures { result ≡ true → (i : ℕ) → i < r.now.n → sound_at (figures_by r.now) i ≡ true }
+{
+    (0..r.n).all(|i| is_sound(r, i))
+}
+
 // Rules 10 to 12 where every task keeps its rules: 10 and 11 at the cores are left.
 fn bare_rules(r: &Records) -> Result<(), Rejection>
     requires { (i : ℕ) → i < r.now.n → sound_at (figures_by r.now) i ≡ true }
@@ -140,7 +97,7 @@ pub(crate) fn early_rules(r: &Records, misordered: bool) -> Result<(), Rejection
     requires { (10 * r.now.n ≤ length r.now.tasks.now) × (8 * r.now.c ≤ length r.now.cores.now) }
     ensures { refusal_of result ≡ scan (early_rows misordered (figures_by r.now)) }
 {
-    if (0..r.n).all(|i| is_sound(r, i)) {
+    if all_sound(r) {
         refuse_if(misordered, Refusal::Order)?;
         return bare_rules(r);
     }

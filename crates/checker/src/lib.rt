@@ -2,6 +2,7 @@
 #![tactic(auto)]
 
 mod early;
+mod faults;
 mod fits;
 mod frame;
 mod rows;
