@@ -1,5 +1,5 @@
 pub mod Tables
-pub mod Answers
+pub mod Mark
 pub mod Offsets
 pub mod Spares
 pub mod Bare

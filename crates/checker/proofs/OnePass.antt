@@ -3,7 +3,9 @@
 use Prim.Native.Nat.{ℕ, suc, ◌+◌, ◌-◌, ◌*◌, ◌/◌, ◌%◌, ◌≤◌, ◌<◌, min, zero-le}
 use mathlib.Core.Path.{◌≡◌, refl, sym, ◌∙◌}
 use mathlib.Core.Bool.{Bool, true, false, or-true}
-use Rattle.std.specs.Prelude.{Option, None, Some}
+use Rattle.std.specs.Prelude.{Option, None, Some, Result, Ok, Err}
+use Rattle.sheet.specs.declared.Refusal.TheVariants.{Chain}
+use Rattle.sheet.specs.declared.Rejection.{Rejection}
 use mathlib.Core.List.{List, ◌∷◌}
 use native.Mathlib.Nat.{mul-le-mul_right, le_trans, div-add-mod'}
 use native.Mathlib.Numerals.{add-one}
@@ -20,8 +22,6 @@ use Rattle.fit.proofs.Lists.{each_all, each_at, each_of}
 use Rattle.fit.proofs.Levels.{chain_multiples}
 use Rattle.fit.proofs.Blocking.{over_along, over_from_first, over_exactly}
 use Rattle.fit.proofs.Passes.{level_bound}
-use Rattle.checker.specs.declared.fits.Judged.{Judged}
-use Rattle.checker.specs.declared.fits.Judged.TheVariants.{Chained, Unchained}
 use Rattle.checker.specs.Steps.{judged}
 
 -- the quotient tells whether a number is a multiple
@@ -61,7 +61,7 @@ module _ (e q M : ℕ → ℕ) (Q D : ℕ) (l : List ℕ) (load d room i : ℕ) 
   next : drop i l ≡ get_or l i 0 ∷ drop (suc i) l
   next = drop-cons l i 0 h
 
-  pub pass_break : (c * d ≡ m → ⊥) → Unchained (get_or l i 0) ≡ judged (chain_break M 1 l) (level_overloaded e q M Q D l)
+  pub pass_break : (c * d ≡ m → ⊥) → Err (record { word = Chain; place = get_or l i 0 }) ≡ judged (chain_break M 1 l) (level_overloaded e q M Q D l)
   unfolding chain_break judged
   pass_break b =
       let z : eqb (M (get_or l i 0) % d) 0 ≡ false = rw em at (times_break m d (rw ec at b)) in
@@ -71,11 +71,11 @@ module _ (e q M : ℕ → ℕ) (Q D : ℕ) (l : List ℕ) (load d room i : ℕ) 
   pub pass_fits : m < 4294967296 → load * c ≤ 281470681677825
   pass_fits small = rw ec (level_bound load d m 0 0 k.bound small (omega arith) (omega arith)).0
 
-  whole_over : (r : Judged) → (Multiples M 1 l → level_overloaded e q M Q D l ≡ true) → r ≡ judged (chain_break M 1 l) true → r ≡ judged (chain_break M 1 l) (level_overloaded e q M Q D l)
+  whole_over : (r : Result Bool (Rejection ℕ)) → (Multiples M 1 l → level_overloaded e q M Q D l ≡ true) → r ≡ judged (chain_break M 1 l) true → r ≡ judged (chain_break M 1 l) (level_overloaded e q M Q D l)
   whole_over r w t = t ∙ over_judged (chain_break M 1 l) (level_overloaded e q M Q D l) (λ z. w (chain_multiples M 1 l z))
 
   module _ (x s : ℕ) (ex : x ≡ q (get_or l i 0)) (es : s ≡ (x - 1) * D) where
-    pub pass_stroke : (r : Judged) → room < s → r ≡ judged (chain_break M 1 l) true → r ≡ judged (chain_break M 1 l) (level_overloaded e q M Q D l)
+    pub pass_stroke : (r : Result Bool (Rejection ℕ)) → room < s → r ≡ judged (chain_break M 1 l) true → r ≡ judged (chain_break M 1 l) (level_overloaded e q M Q D l)
     unfolding over_along
     pass_stroke r t = whole_over r (λ w. k.over w pos ∙ rw (next, ← ex, ← es, lt-ltb room s t))
 
@@ -86,7 +86,7 @@ module _ (e q M : ℕ → ℕ) (Q D : ℕ) (l : List ℕ) (load d room i : ℕ) 
       full_is : full ≡ Q * M (get_or l i 0)
       full_is = ef ∙ rw em
 
-      pub pass_over : (r : Judged) → full < level → r ≡ judged (chain_break M 1 l) true → r ≡ judged (chain_break M 1 l) (level_overloaded e q M Q D l)
+      pub pass_over : (r : Result Bool (Rejection ℕ)) → full < level → r ≡ judged (chain_break M 1 l) true → r ≡ judged (chain_break M 1 l) (level_overloaded e q M Q D l)
       unfolding over_along
       pass_over r t = whole_over r (λ w. k.over w pos ∙ rw (next, ← level_is, ← full_is, lt-ltb full level t, or-true))
 
@@ -102,7 +102,7 @@ module _ (e q M : ℕ → ℕ) (Q D : ℕ) (l : List ℕ) (load d room i : ℕ) 
             above = rw em (each_at (λ j. 0 < M j) 0 l i h pos);
           }
 
-pub pass_end : (e q M : ℕ → ℕ) (Q D : ℕ) (l : List ℕ) (load d room i : ℕ) → length l ≤ i → Each (λ j. 0 < M j) l → Passing e q M Q D l load d room i → Chained false ≡ judged (chain_break M 1 l) (level_overloaded e q M Q D l)
+pub pass_end : (e q M : ℕ → ℕ) (Q D : ℕ) (l : List ℕ) (load d room i : ℕ) → length l ≤ i → Each (λ j. 0 < M j) l → Passing e q M Q D l load d room i → Ok false ≡ judged (chain_break M 1 l) (level_overloaded e q M Q D l)
 unfolding chain_break over_along judged
 pass_end e q M Q D l load d room i h pos k =
     let whole : chain_break M 1 l ≡ None = k.chain ∙ rw (drop_of_length-le l {i = i} h) in

@@ -43,7 +43,8 @@ all_of P n u f r ran calls e i h =
     let each : AllWithin P (range_with_len 0 n) 0 (length (range_with_len 0 n)) = rw e at all in
     subst P (get_or-range_with_len 0 n i 0 h ∙ zero-add i) (each i 0 zero-le (rw (length-range_with_len 0 n) h))
 
-handed : {A : Type 0} (g : Result A (Rejection ℕ)) (r : Rejection ℕ) (x : Option Refused) → IsErrAnd g (λ e. e ≡ r) → refusal_of {A = A} (Err r) ≡ x → refusal_of g ≡ x
+-- what a `?` hands on
+pub handed : {A : Type 0} (g : Result A (Rejection ℕ)) (r : Rejection ℕ) (x : Option Refused) → IsErrAnd g (λ e. e ≡ r) → refusal_of {A = A} (Err r) ≡ x → refusal_of g ≡ x
 handed (Ok v) r x i e = absurd i
 handed (Err w) r x i e = rw i e
 

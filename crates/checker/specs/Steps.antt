@@ -1,12 +1,13 @@
 -- What the code's own steps ask and give; no public contract speaks of it.
-use Rattle.std.specs.Prelude.{ℕ, ◌≤◌, ◌<◌, List, ◌++◌, eqb, ◌≡◌, Bool, false, cond, not, ◌||◌, get_or}
+use Rattle.std.specs.Prelude.{ℕ, ◌≤◌, ◌<◌, List, ◌++◌, ◌≡◌, Bool, false, not, ◌||◌, get_or}
 use Rattle.sheet.specs.Table.{Row}
 use Rattle.fit.specs.Priority.{Above}
 use Rattle.std.specs.Prelude.{Option, None, Some}
 use Rattle.sheet.specs.Ranges.{bad_period, bad_budget, bad_stroke}
 use Rattle.sheet.specs.Records.{Figures}
 use Rattle.std.specs.Prelude.{Result, Ok, Err}
-use Rattle.fit.specs.declared.Break.{Break}
+use Rattle.sheet.specs.declared.Refusal.TheVariants.{Chain}
+use Rattle.sheet.specs.declared.Rejection.{Rejection}
 use Rattle.checker.specs.Rules.{task_rows, core_rows}
 use Rattle.checker.specs.Tests.{bad_core, bare, bad_factor, bad_pivot, stretched_at}
 
@@ -15,9 +16,9 @@ pub record Used (n : ℕ) (core : ℕ → ℕ) (used : List Bool) : Type 0 where
   pub flags : (k : ℕ) → k < 256 → not (get_or used k false) ≡ bare n core k
 
 -- rules 13 and 14 at a core: its chain is broken at a task, or is whole, and then the core is over or not
-unfoldable pub judged : Option ℕ → Bool → Result Bool Break
+unfoldable pub judged : Option ℕ → Bool → Result Bool (Rejection ℕ)
 judged None over = Ok over
-judged (Some i) over = Err (record { task = i })
+judged (Some i) over = Err (record { word = Chain; place = i })
 
 -- task i keeps rules 7, 8, 25, 9, 11 and 12
 unfoldable pub sound_at : Figures → ℕ → Bool
