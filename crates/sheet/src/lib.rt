@@ -14,31 +14,31 @@ use std::fmt;
 // The refusals by their words, in the order of their numbers (docs/SHEET.md, section 9).
 #[derive(Clone, Copy, Debug, PartialEq, Eq)]
 pub enum Refusal {
-    Stub,
-    Mark,
-    Version,
-    Count,
-    Length,
-    Spare,
-    Period,
-    Budget,
-    Core,
-    Bare,
-    Factor,
-    Stretch,
-    Chain,
-    Overload,
-    NoFit,
-    Tight,
-    Unlisted,
-    Early,
-    Late,
-    Quiet,
-    Foreign,
-    Start,
-    Order,
-    Row,
-    Stroke,
+    Stub = 1,
+    Mark = 2,
+    Version = 3,
+    Count = 4,
+    Length = 5,
+    Spare = 6,
+    Period = 7,
+    Budget = 8,
+    Core = 9,
+    Bare = 10,
+    Factor = 11,
+    Stretch = 12,
+    Chain = 13,
+    Overload = 14,
+    NoFit = 15,
+    Tight = 16,
+    Unlisted = 17,
+    Early = 18,
+    Late = 19,
+    Quiet = 20,
+    Foreign = 21,
+    Start = 22,
+    Order = 23,
+    Row = 24,
+    Stroke = 25,
 }
 
 // Why something is refused, and at which place: a task, 64 plus a core, an offset, or 0 (docs/SHEET.md, section 9).
@@ -69,33 +69,7 @@ impl From<Refusal> for u8 {
     ghost from_gives = { λ word n. n ≡ number_of word };
 
     fn from(word: Refusal) -> u8 {
-        match word {
-            Refusal::Stub => 1,
-            Refusal::Mark => 2,
-            Refusal::Version => 3,
-            Refusal::Count => 4,
-            Refusal::Length => 5,
-            Refusal::Spare => 6,
-            Refusal::Period => 7,
-            Refusal::Budget => 8,
-            Refusal::Core => 9,
-            Refusal::Bare => 10,
-            Refusal::Factor => 11,
-            Refusal::Stretch => 12,
-            Refusal::Chain => 13,
-            Refusal::Overload => 14,
-            Refusal::NoFit => 15,
-            Refusal::Tight => 16,
-            Refusal::Unlisted => 17,
-            Refusal::Early => 18,
-            Refusal::Late => 19,
-            Refusal::Quiet => 20,
-            Refusal::Foreign => 21,
-            Refusal::Start => 22,
-            Refusal::Order => 23,
-            Refusal::Row => 24,
-            Refusal::Stroke => 25,
-        }
+        word as u8
     }
 }
 
@@ -208,9 +182,10 @@ pub fn stroke(stroked: bool, tasks: &[u8], j: u8) -> u8
     ensures { result ≡ stroke_of_position stroked tasks.now j }
 {
     if stroked {
-        return byte(tasks, 10 * usize::from(j) + 5);
+        byte(tasks, 10 * usize::from(j) + 5)
+    } else {
+        1
     }
-    1
 }
 
 pub fn factor(tasks: &[u8], i: u8) -> u32
