@@ -2,16 +2,16 @@
 -- Assumes nothing.
 use Prim.Native.Nat.{ℕ, ◌+◌, ◌-◌, ◌*◌, ◌/◌, ◌%◌, ◌≤◌, ◌<◌, zero-le}
 use mathlib.Core.Path.{◌≡◌, refl, sym, ◌∙◌}
-use mathlib.Core.Bool.{Bool, true, false, not, ◌&&◌, and-false}
+use mathlib.Core.Bool.{Bool, true, false, ◌&&◌, and-false, true≢false}
 use mathlib.Core.List.{List}
 use native.Mathlib.Nat.{zero-add, mul-zero, mul_assoc, div-zero, mul-le-mul, mul-le-mul_right, mul-div-le, div-le_self, le_trans}
 use native.Mathlib.Numerals.{add-one}
 use native.Mathlib.Omega.{arith}
-use borrow.Author.Tests.{le-leb, lt-leb, not-true, not-false}
+use borrow.Author.Tests.{le-leb, lt-leb, eq-eqb, ne_eqb}
 use lib.ListN.{length, get_or, drop, drop_of_length-le}
 use lib.Seq.{drop-cons}
 use lib.Dec.{leb, eqb}
-use Rattle.std.specs.Prelude.{Result, Ok, Err}
+use Rattle.std.specs.Prelude.{Result, Ok, Err, ◌↔◌}
 use Rattle.fit.specs.declared.Break.{Break}
 use Rattle.fit.specs.Lists.{sum}
 use Rattle.fit.specs.Fits.{chain_break, last_factor, load}
@@ -25,18 +25,14 @@ pub record Linked (M : ℕ → ℕ) (l : List ℕ) (d i : ℕ) : Type 0 where
 pub link_start : (M : ℕ → ℕ) (l : List ℕ) → Linked M l 1 0
 link_start M l = record { break = refl; last = refl }
 
-module _ (M : ℕ → ℕ) (l : List ℕ) (d i m : ℕ) (r : Bool) (h : i < length l) (k : Linked M l d i) (f : m ≡ M (get_or l i 0)) (t : r ≡ not (eqb (m % d) 0)) where
-  pub link_turn : r ≡ false → Linked M l m (i + 1)
+module _ (M : ℕ → ℕ) (l : List ℕ) (d i m : ℕ) (r : Bool) (h : i < length l) (k : Linked M l d i) (f : m ≡ M (get_or l i 0)) (t : (r ≡ true) ↔ (m % d ≡ 0)) where
+  pub link_turn : r ≡ true → Linked M l m (i + 1)
   unfolding chain_break last_factor
-  link_turn e =
-      let q : eqb (m % d) 0 ≡ true = not-false (eqb (m % d) 0) (sym t ∙ e) in
-      record { break = k.break ∙ rw (add-one i, drop-cons l i 0 h, ← f, q); last = k.last ∙ rw (add-one i, drop-cons l i 0 h, f) }
+  link_turn e = record { break = k.break ∙ rw (add-one i, drop-cons l i 0 h, ← f, eq-eqb (m % d) 0 (t.0 e)); last = k.last ∙ rw (add-one i, drop-cons l i 0 h, f) }
 
-  pub link_break : r ≡ true → ◌≡◌ {A = Result ℕ Break} (Err (record { task = get_or l i 0 })) (chained M l)
+  pub link_break : r ≡ false → ◌≡◌ {A = Result ℕ Break} (Err (record { task = get_or l i 0 })) (chained M l)
   unfolding chain_break chained chain_answer
-  link_break e =
-      let q : eqb (m % d) 0 ≡ false = not-true (eqb (m % d) 0) (sym t ∙ e) in
-      rw (k.break, drop-cons l i 0 h, ← f, q)
+  link_break e = rw (k.break, drop-cons l i 0 h, ← f, ne_eqb (m % d) 0 (λ z. true≢false (sym (t.1 z) ∙ e)))
 
 pub link_end : (M : ℕ → ℕ) (l : List ℕ) (d i : ℕ) → length l ≤ i → Linked M l d i → Ok d ≡ chained M l
 unfolding chain_break last_factor chained chain_answer
@@ -73,20 +69,6 @@ load_end e M D L l total i a b c h k =
     let q : load e M D L (drop i l) ≡ 0 = rw (drop_of_length-le l {i = i} h) in
     let t : total ≡ load e M D L l = omega (arith, k.left, q) in
     rw (le-leb D 120000 a, le-leb L 120000 b, le-leb (length l) 64 c) t
-
--- the load out of range is 0
-module _ (e M : ℕ → ℕ) (D L : ℕ) (l : List ℕ) where
-  pub divisor_out : 120000 < D → 0 ≡ load_in_range e M D L l
-  unfolding load_in_range
-  divisor_out h = rw (lt-leb D 120000 h)
-
-  pub last_out : 120000 < L → 0 ≡ load_in_range e M D L l
-  unfolding load_in_range
-  last_out h = rw (lt-leb L 120000 h, and-false (leb D 120000))
-
-  pub length_out : 64 < length l → 0 ≡ load_in_range e M D L l
-  unfolding load_in_range
-  length_out h = rw (lt-leb (length l) 64 h, and-false (leb D 120000 && leb L 120000))
 
 -- what a stroke takes, where the divisor is of four bytes
 pub held_bound : (q d : ℕ) → q < 256 → d < 4294967296 → (q - 1) * d ≤ 1095216660225
