@@ -10,14 +10,14 @@ use Rattle.core.specs.Result.{IsErrAnd}
 use mathlib.Core.List.{List, [], ◌∷◌}
 use native.Mathlib.Omega.{arith}
 use native.Mathlib.Nat.{sub-zero}
-use lib.ListN.{length, take, drop}
+use lib.ListN.{length, get_or, take, drop}
 use Rattle.sheet.specs.Records.{Figures}
 use Rattle.fit.specs.declared.Break.{Break}
 use Rattle.sheet.specs.declared.Refusal.TheVariants.{Chain}
 use Rattle.sheet.specs.declared.Rejection.{Rejection}
-use Rattle.sheet.specs.Table.{Refused, refused_by, refusal_of, scan, core, ◌at◌}
+use Rattle.sheet.specs.Table.{Refused, Row, refused_by, refusal_of, scan, core, ◌at◌}
 use Rattle.sheet.proofs.Scans.{scan_hit, scan_skip}
-use Rattle.fit.specs.Lists.{numbers, find, find_some, at, padded, Each}
+use Rattle.fit.specs.Lists.{numbers, find, find_some, padded, Each}
 use Rattle.fit.specs.Priority.{order, Above}
 use Rattle.fit.specs.Fits.{chain_break, last_factor, level_overloaded}
 use Rattle.fit.specs.Answers.{Column, chain_answer, chained}
@@ -28,16 +28,15 @@ use Rattle.order.specs.Cores.{on_cores, ByCore, end_on}
 use Rattle.order.proofs.Cutting.{standing_by_core, by_core_size, by_core_ext, cut_end, cut_part, cut_rises, cut_inside}
 use Rattle.fit.specs.Cores.{order_on}
 use Rattle.checker.specs.Tests.{chain_break_on, overloaded_on}
-use Rattle.checker.specs.Rules.{fit_rows}
 use Rattle.checker.specs.Steps.{judged, Sorted, InRange}
 use Rattle.checker.proofs.Tables.{handed}
 
 -- tasks that stand core by core are taken as they stand, others by a column of their periods
-pub order_standing : (f : Figures) (list : List ℕ) → ((i : ℕ) → f.core i < 256) → Sorted f → list ≡ padded (numbers 0 (min f.tasks 64)) → ByCore f.period f.core (min f.tasks 64) list
-order_standing f list bytes s e = standing_by_core f.period f.core (min f.tasks 64) (λ i j h q. s.cores i j h (omega arith)) (λ i j h q. s.above i j h (omega arith)) (λ i h. bytes i) list e
+pub order_standing : (f : Figures) (list : List ℕ) → InRange f → Sorted f → list ≡ padded (numbers 0 (min f.tasks 64)) → ByCore f.period f.core (min f.tasks 64) list
+order_standing f list r s e = standing_by_core f.period f.core (min f.tasks 64) (λ i j h q. s.cores i j h (omega arith)) (λ i j h q. s.above i j h (omega arith)) (λ i h. r.cores i (omega arith)) list e
 
-pub order_ranked : (p core : ℕ → ℕ) (n : ℕ) (periods list : List ℕ) → Column p n periods → ByCore (at periods) core n list → ByCore p core n list
-order_ranked p core n periods list c b = by_core_ext (at periods) p core n list c.below b
+pub order_ranked : (p core : ℕ → ℕ) (n : ℕ) (periods list : List ℕ) → Column p n periods → ByCore (λ i. get_or periods i 0) core n list → ByCore p core n list
+order_ranked p core n periods list c b = by_core_ext (λ i. get_or periods i 0) p core n list c.below b
 
 -- The part of core k in the list is its tasks in priority order.
 module _ (f : Figures) (k from : ℕ) (list : List ℕ) (r : InRange f) (h : k < 256) (b : ByCore f.period f.core (min f.tasks 64) list) (start : from ≡ length (on_cores f.period f.core k (min f.tasks 64))) where
@@ -55,9 +54,9 @@ module _ (f : Figures) (k from : ℕ) (list : List ℕ) (r : InRange f) (h : k <
       let n : min f.tasks 64 ≡ f.tasks = omega (arith, r.count) in
       rw e (cut_part f.period f.core (min f.tasks 64) k from list (omega arith) h b start) ∙ ap (order f.period f.core k) n
 
-  pub part_members : (to : ℕ) → to ≡ end_on f.core k list from (min f.tasks 64) → (tasks : List ℕ) → 10 * f.tasks ≤ length tasks → Each (λ i. (10 * i + 10 ≤ length tasks) × (0 < f.factor i)) (take (to - from) (drop from list))
+  pub part_members : (to : ℕ) → to ≡ end_on f.core k list from (min f.tasks 64) → Each (λ i. i < f.tasks) (take (to - from) (drop from list))
   unfolding order_on
-  part_members to e tasks long = subst (Each _) (sym (part_order to e)) (each_of {P = λ i. (i < f.tasks) × (f.core i ≡ k)} _ (λ i m. (omega (arith, m.0), r.factors i m.0)) (order_members f.period f.core k f.tasks))
+  part_members to e = subst (Each _) (sym (part_order to e)) (each_of {P = λ i. (i < f.tasks) × (f.core i ≡ k)} _ (λ i m. m.0) (order_members f.period f.core k f.tasks))
 
   pub part_judged : (to Q D : ℕ) (x : Result Bool (Rejection ℕ)) → to ≡ end_on f.core k list from (min f.tasks 64) → Q ≡ f.pivot k → D ≡ f.divisor k → x ≡ judged (chain_break f.factor 1 (take (to - from) (drop from list))) (level_overloaded f.budget f.stroke f.factor Q D (take (to - from) (drop from list))) → x ≡ judged (chain_break_on f k) (overloaded_on f k)
   unfolding chain_break_on overloaded_on
@@ -99,11 +98,11 @@ pub fit_start : (f : Figures) (c : ℕ) → Passed f c 0 None
 fit_start f c = record { chains = rw (sub-zero c); loads = rw (sub-zero c) }
 
 module _ (f : Figures) (c k : ℕ) (found : Option ℕ) (r : Result Bool (Rejection ℕ)) (h : k < c) (p : Passed f c k found) (e : r ≡ judged (chain_break_on f k) (overloaded_on f k)) where
-  pub fit_broken : {A : Type 0} (g : Result A (Rejection ℕ)) (w : Rejection ℕ) → IsErrAnd g (λ e. e ≡ w) → r ≡ Err w → refusal_of g ≡ scan (fit_rows f)
-  unfolding find_some fit_rows
-  fit_broken g w i q =
+  pub fit_broken : {A : Type 0} (g : Result A (Rejection ℕ)) (w : Rejection ℕ) → IsErrAnd g (λ e. e ≡ w) → r ≡ Err w → (rows : List Row) → refusal_of g ≡ scan (13 at find_some (chain_break_on f) (numbers 0 c) ∷ rows)
+  unfolding find_some
+  fit_broken g w i q rows =
       let b : (chain_break_on f k ≡ Some w.place) × (refused_by w ≡ record { number = 13; place = w.place }) = judged_broken _ (overloaded_on f k) w (sym q ∙ e) in
-      handed g w _ i (ap Some b.1 ∙ scan_hit 13 w.place _ _ (sym (p.chains ∙ rw (front c k h, b.0))))
+      handed g w _ i (ap Some b.1 ∙ scan_hit 13 w.place _ rows (sym (p.chains ∙ rw (front c k h, b.0))))
 
   pub fit_turn : (found' : Option ℕ) (b : Bool) → r ≡ Ok b → found' ≡ option_or found (then_some b k) → Passed f c (k + 1) found'
   unfolding find_some find

@@ -14,15 +14,14 @@ use borrow.Author.Tests.{lt-ltb, le-ltb, eq-eqb, ne_eqb}
 use lib.Dec.{eqb}
 use lib.ListN.{length, get_or, drop, drop_of_length-le}
 use lib.Seq.{drop-cons}
-use Rattle.sheet.specs.Records.{budget_at, factor_at}
-use Rattle.sheet.specs.Views.{stroke_of_position}
+use Rattle.sheet.specs.Records.{Figures}
 use Rattle.fit.specs.Lists.{Each}
 use Rattle.fit.specs.Fits.{Multiples, chain_break, level_overloaded}
-use Rattle.fit.proofs.Lists.{each_all, each_at, each_of}
+use Rattle.fit.proofs.Lists.{each_at, each_of}
 use Rattle.fit.proofs.Levels.{chain_multiples}
 use Rattle.fit.proofs.Blocking.{over_along, over_from_first, over_exactly}
 use Rattle.fit.proofs.Passes.{level_bound}
-use Rattle.checker.specs.Steps.{judged}
+use Rattle.checker.specs.Steps.{judged, InRange}
 
 -- the quotient tells whether a number is a multiple
 times_rest : (m d : ℕ) → m / d * d ≡ m → eqb (m % d) 0 ≡ true
@@ -42,14 +41,9 @@ pub record Passing (e q M : ℕ → ℕ) (Q D : ℕ) (l : List ℕ) (load d room
   pub above : 0 < d
 
 -- before the first task there is room for every stroke: it is of one byte, and the divisor of four
-pub pass_start : (tasks l : List ℕ) (stroked : Bool) (Q D : ℕ) → ((i : ℕ) → get_or tasks i 0 < 256) → D < 4294967296 → Passing (budget_at tasks) (stroke_of_position stroked tasks) (factor_at tasks) Q D l 0 1 1099511627776 0
+pub pass_start : (e q M : ℕ → ℕ) (Q D : ℕ) (l : List ℕ) → Each (λ i. q i ≤ 255) l → D < 4294967296 → Passing e q M Q D l 0 1 1099511627776 0
 unfolding over_from_first
-pass_start tasks l stroked Q D bytes small =
-    record { chain = refl; over = λ m f. sym (over_exactly _ _ _ Q D 255 l m f (each_all _ l (byte stroked)) (omega arith)); bound = zero-le; above = omega arith }
-  where
-    byte : (b : Bool) (i : ℕ) → stroke_of_position b tasks i ≤ 255
-    byte true i = omega (arith, bytes (10 * i + 5))
-    byte false i = omega arith
+pass_start e q M Q D l short small = record { chain = refl; over = λ m f. sym (over_exactly e q M Q D 255 l m f short (omega arith)); bound = zero-le; above = omega arith }
 
 -- a core that is over
 over_judged : (o : Option ℕ) (b : Bool) → (o ≡ None → b ≡ true) → judged o true ≡ judged o b
@@ -109,9 +103,13 @@ pass_end e q M Q D l load d room i h pos k =
     let over : level_overloaded e q M Q D l ≡ false = k.over (chain_multiples M 1 l whole) pos ∙ rw (drop_of_length-le l {i = i} h) in
     rw (whole, over)
 
--- the two facts that the code asks of each task
-pub factors_above : (tasks l : List ℕ) → Each (λ i. (10 * i + 10 ≤ length tasks) × (0 < factor_at tasks i)) l → Each (λ j. 0 < factor_at tasks j) l
-factors_above tasks l h = each_of {P = λ i. (10 * i + 10 ≤ length tasks) × (0 < factor_at tasks i)} l (λ i m. m.1) h
+-- what the code knows of each task
+module _ (f : Figures) (l : List ℕ) (r : InRange f) (h : Each (λ i. i < f.tasks) l) where
+  pub factors_above : Each (λ i. 0 < f.factor i) l
+  factors_above = each_of {P = λ i. i < f.tasks} l r.factors h
 
-pub record_inside : (tasks l : List ℕ) (i at : ℕ) → i < length l → at ≡ 10 * get_or l i 0 → Each (λ i. (10 * i + 10 ≤ length tasks) × (0 < factor_at tasks i)) l → at + 10 ≤ length tasks
-record_inside tasks l i at h e p = omega (arith, (each_at (λ i. (10 * i + 10 ≤ length tasks) × (0 < factor_at tasks i)) 0 l i h p).0)
+  pub strokes_short : Each (λ i. f.stroke i ≤ 255) l
+  strokes_short = each_of {P = λ i. i < f.tasks} l r.strokes h
+
+  pub record_inside : (tasks : List ℕ) (i at : ℕ) → 10 * f.tasks ≤ length tasks → i < length l → at ≡ 10 * get_or l i 0 → at + 10 ≤ length tasks
+  record_inside tasks i at long q e = omega (arith, each_at (λ i. i < f.tasks) 0 l i q h)

@@ -46,7 +46,7 @@ fn judge_over(tasks: &[u8], list: &[u8]) -> Result<bool, Rejection>
 // Rules 13 and 14 over the tasks of core k in priority order, in one pass: whether it is over. `load` is that of the tasks passed at the
 // factor `last` of the last of them, `room` the least that one of them has to spare: before the first it is 2^40, above what any stroke takes.
 fn judge(r: &Records, k: u8, list: &[u8]) -> Result<bool, Rejection>
-    requires { Each (λ i. (10 * i + 10 ≤ length r.now.tasks.now) × (0 < (figures_by r.now).factor i)) list.now }
+    requires { (10 * r.now.n ≤ length r.now.tasks.now) × InRange (figures_by r.now) × Each (λ i. i < r.now.n) list.now }
     ensures { result ≡ judged (chain_break (figures_by r.now).factor 1 list.now) (level_overloaded (figures_by r.now).budget (figures_by r.now).stroke (figures_by r.now).factor ((figures_by r.now).pivot k) ((figures_by r.now).divisor k) list.now) }
 {
     let pivot = sheet::pivot(r.cores, k);
