@@ -23,6 +23,9 @@ use Rattle.sheet.specs.Table.{Row, Refused, ◌at◌, scan, whole, core, refusal
 use Rattle.sheet.proofs.Scans.{part_hit, part_skip, row_hit, row_skip}
 use Rattle.fit.specs.Lists.{numbers, find}
 use Rattle.fit.proofs.Words.{find_range}
+use Rattle.sheet.specs.Refusals.{number_of}
+use Rattle.checker.specs.declared.Counts.{Counts}
+use Rattle.checker.specs.Verdict.{Outcome, refused, outcome_of}
 
 -- the first of n tasks or cores at which a test says that a rule is broken
 as_is : (r o : Option ℕ) → option_map (λ x. x) r ≡ o → r ≡ o
@@ -83,3 +86,8 @@ module _ {A : Type 0} (f : Result A (Rejection ℕ)) (k : ℕ) where
 
   pub core_end : (o p : Option ℕ) → refusal_of f ≡ scan (k at core o ∷ []) → o ≡ p → refusal_of f ≡ scan (k at core p ∷ [])
   core_end o p e h = row_end _ (core p) e (ap core h)
+
+-- the answer that a `?` hands on
+pub answered : (g : Result Counts (Rejection ℕ)) (r : Rejection ℕ) {x : Outcome} → IsErrAnd g (λ e. e ≡ r) → refused (number_of r.word) r.place ≡ x → outcome_of g ≡ x
+answered (Ok v) r i e = absurd i
+answered (Err w) r i e = rw i e
