@@ -295,8 +295,11 @@ pub record PassedIn (s : Core) (l : List Task) (i : ℕ) (p : Pass) : Type 0 whe
   pub own : p.own ≡ s.stroke_task
   pub left : p.left ≡ s.stroke_left
 
+pub more_than_64 : (s : Core) → 64 < s.count → true ≡ foreign s
+more_than_64 s h = is_foreign s (λ f. omega (arith, f.count))
+
 pub too_many : (s : Core) → length s.tasks ≡ 64 → length s.tasks < s.count → true ≡ foreign s
-too_many s r h = is_foreign s (λ f. omega (arith, f.count))
+too_many s r h = more_than_64 s (omega arith)
 
 pub passed_begun : (s : Core) (l : List Task) (p : Pass) → length s.tasks ≡ 64 → s.count ≤ length s.tasks → l ≡ tasks_of s → p ≡ begun s.stroke_task s.stroke_left → PassedIn s l 0 p
 passed_begun s l p room h t e = record { few = omega arith; many = ap length t ∙ length-take-le s.count s.tasks h; tasks = t; passed = rw e (passed_start s.stroke_task s.stroke_left); own = rw e; left = rw e }

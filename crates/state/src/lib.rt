@@ -17,7 +17,7 @@ use sheet::{Refusal, Rejection};
 use timing::Task;
 
 // The state of a core: its tasks are the first `count` places, in priority order; the number of the task whose stroke lasts and the ticks left
-// to it, both 0 for none. A count beside the places, since this is the layout of the C struct `homvaits_core`.
+// to it, both 0 for none. The count stands beside the places, as in the C struct `homvaits_core`.
 #[repr(C)]
 #[derive(Clone, Copy)]
 pub struct Core {
@@ -62,10 +62,12 @@ impl Step {
 fn aged(t: Task) -> Task
     ensures { result ≡ older t }
 {
-    Task {
-        age: t.age.saturating_add(1).min(t.period),
-        ..t
-    }
+    let age = if t.age < t.period {
+        t.age + 1
+    } else {
+        t.period
+    };
+    Task { age, ..t }
 }
 
 // The ticks left of the stroke in which a task has its tick, after it: of so many, or of a stroke that begins where there are none.
@@ -79,7 +81,7 @@ fn ticks_after(ticks: u8, t: Task) -> u8
 }
 
 // The place of the first task with this number.
-fn place_in(tasks: &[Task], number: u64) -> Option<usize>
+fn first_named(tasks: &[Task], number: u64) -> Option<usize>
     ensures { result ≡ position (λ t. t.number == number) tasks.now }
 {
     tasks.iter().position(|t| u64::from(t.number) == number)
@@ -111,7 +113,7 @@ impl Core {
         if self.is_foreign() {
             return Err(Refusal::Foreign.at(0));
         }
-        place_in(&self.tasks[..self.count], number).ok_or(Refusal::Unlisted.at(0))
+        first_named(&self.tasks[..self.count], number).ok_or(Refusal::Unlisted.at(0))
     }
 
     // The state with another task at a place.
@@ -221,20 +223,21 @@ impl Core {
     }
 
     // One tick passes: 21, else the stroke's task, or outside a stroke the first pending task, has one tick less left, and every age rises by
-    // one, up to its period. One pass tests the form, makes the marks and the ages; a function for each would be handed the state by value, and
-    // copy it.
+    // one, up to its period. One pass tests the form, sets the marks and the ages. It goes by index over the copy: an iterator over the tasks of
+    // `self` costs one more copy of the state and stores every field of a task, 1.1 of the time.
     pub fn tick(self) -> Step
         ensures operation { Operation tick self result }
         ensures refused_unaltered { Unaltered self result }
         ensures serves { Serves self result }
     {
-        let Some(tasks) = self.tasks.get(..self.count) else {
+        if 64 < self.count {
             return Step::refused(self, Refusal::Foreign.at(0));
-        };
+        }
         let mut next = self;
         let mut pending = [0; 64];
         let mut pass = Pass::new(self.stroke_task, self.stroke_left);
-        for (i, &t) in tasks.iter().enumerate() {
+        for i in 0..self.count {
+            let t = next.tasks[i];
             if pass.breaks(t) {
                 return Step::refused(self, Refusal::Foreign.at(0));
             }
