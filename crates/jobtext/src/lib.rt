@@ -5,6 +5,7 @@ ghost use Rattle.std.specs.Prelude.{◌≡◌, ◌++◌, ◌+◌, ◌*◌, ◌�
 ghost use Rattle.jobtext.specs.Text.{empty_line, longer, begun, digit, in_line, start_state, line_end, step, run, finish, room_in, stopped_at, bytes_of, read_of, holding, line_of, count, Ends};
 
 use arrayvec::ArrayVec;
+use std::fmt;
 
 // How many jobs a text can have.
 const MAX_JOBS: usize = 64;
@@ -22,6 +23,22 @@ pub enum Fault {
 pub struct WrongLine {
     pub line: u64,
     pub fault: Fault,
+}
+
+impl fmt::Display for WrongLine {
+    fn fmt<W: fmt::Write>(&self, f: &mut fmt::Formatter<W>) -> fmt::Result {
+        let line = self.line;
+        match self.fault {
+            Fault::NoJob => {
+                write!(
+                    f,
+                    "line {line} is not a job: a line has a period and a budget"
+                )
+            }
+            Fault::Large => write!(f, "line {line} has a number above 65535"),
+            Fault::Full => write!(f, "line {line}: more than 64 jobs"),
+        }
+    }
 }
 
 // The numbers of a line, or that it cannot be a job.
