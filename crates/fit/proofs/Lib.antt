@@ -5,6 +5,7 @@ pub mod Ceiling
 pub mod Priority
 pub mod Levels
 pub mod Finds
+pub mod Words
 pub mod Some
 pub mod Counting
 pub mod Rings
