@@ -2,15 +2,13 @@
 -- are grouped.
 -- Assumes nothing.
 use Prim.Native.Nat.{ℕ, ◌*◌, ◌≤◌, ◌<◌, min}
-use mathlib.Core.Path.{◌≡◌, sym, ap, subst, ◌∙◌}
+use mathlib.Core.Path.{◌≡◌, sym, subst, ◌∙◌}
 use mathlib.Core.Bool.{Bool, true, false, ◌&&◌}
-use mathlib.Core.List.{List}
+use mathlib.Core.List.{List, ◌++◌}
+use Rattle.std.specs.Prelude.{None}
 use native.Mathlib.Omega.{arith}
 use lib.ListN.{drop}
-use Rattle.sheet.specs.declared.Refusal.{Refusal}
-use Rattle.sheet.specs.declared.Finding.{Finding}
-use Rattle.sheet.specs.declared.Finding.TheVariants.{Clear, Broken}
-use Rattle.sheet.specs.Table.{scan, finding_of}
+use Rattle.sheet.specs.Table.{scan}
 use Rattle.sheet.specs.Records.{Figures, period_at, number_at, count_at, figures_with}
 use Rattle.sheet.specs.Views.{core_by_counts, core_of_position, stroke_of_position}
 use Rattle.sheet.proofs.Scans.{scan_clear, scan_clears, whole_clear}
@@ -20,21 +18,27 @@ use Rattle.views.specs.Order.{misordered}
 use Rattle.views.proofs.Counts.{core_rises}
 use Rattle.views.proofs.Grouped.{grouped_sorted}
 use Rattle.checker.specs.Tests.{bad_order}
-use Rattle.checker.specs.Rules.{task_rows, core_rows, fit_rows, record_rows, part_rows}
+use Rattle.checker.specs.Rules.{task_rows, core_rows, fit_rows, part_rows}
 use Rattle.checker.specs.Steps.{early_rows, Sorted, InRange}
 use Rattle.checker.proofs.Columns.{rows_same, order_same}
-use Rattle.checker.proofs.Sound.{records_broken, records_fit}
-use Rattle.checker.proofs.Clear.{clear_range}
+use Rattle.checker.proofs.Acceptance.{cores_kept}
+use Rattle.checker.proofs.Sound.{all_rows}
 
--- where nothing of rules 7 to 12, 23 and 25 is broken, rule 23 is not
-clear_order : (b : Bool) (f : Figures) (t : Finding) → finding_of t ≡ scan (early_rows b f) → t ≡ Clear → b ≡ false
+-- where rules 7 to 12, 23 and 25 are kept, rule 23 is, and rules 13 and 14 have what they need
+clear_order : (b : Bool) (f : Figures) → None ≡ scan (early_rows b f) → b ≡ false
 unfolding early_rows task_rows
-clear_order b f t e h =
-    let rows = (scan_clears (task_rows b f) (core_rows f) (sym (ap finding_of h) ∙ e)).0 in
+clear_order b f e =
+    let rows = (scan_clears (task_rows b f) (core_rows f) e).0 in
     let period = scan_clear 7 _ _ rows in
     let budget = scan_clear 8 _ _ period.1 in
     let stroke = scan_clear 25 _ _ budget.1 in
     whole_clear b (scan_clear 23 _ _ stroke.1).0
+
+clear_range : (b : Bool) (f : Figures) → f.tasks ≤ 64 → None ≡ scan (early_rows b f) → InRange f
+unfolding early_rows
+clear_range b f n e =
+    let rows = scan_clears (task_rows b f) (core_rows f) e in
+    record { count = n; factors = λ i z. ((cores_kept f rows.1).factor i z).0 }
 
 module _ (grouped stroked : Bool) (records cores on : List ℕ) (n c : ℕ) (after : cores ≡ drop (10 * n) records) (few : n ≤ 64) (column : Column (core_of_position grouped c records cores) (min n 64) on) (b : Bool) (order : b ≡ (grouped && misordered (period_at records) (number_at records) (at on) (count_at cores) n c)) where
   abbrev f : Figures
@@ -43,19 +47,14 @@ module _ (grouped stroked : Bool) (records cores on : List ℕ) (n c : ℕ) (aft
   same : (i : ℕ) → i < n → at on i ≡ core_of_position grouped c records cores i
   same i h = column.below i (omega arith)
 
-  rows : record_rows b f ≡ part_rows grouped stroked n c records
+  pub rows : early_rows b f ++ fit_rows f ≡ part_rows grouped stroked n c records
   unfolding part_rows bad_order
   rows =
-      rows_same (at on) (core_of_position grouped c records cores) n c same (stroke_of_position stroked records) records cores b
+      all_rows b f
+      ∙ rows_same (at on) (core_of_position grouped c records cores) n c same (stroke_of_position stroked records) records cores b
       ∙ rw (order, order_same (at on) (core_of_position grouped c records cores) n c same (period_at records) (number_at records) (count_at cores), after)
 
-  pub part_broken : (r : Finding) (w : Refusal) (p : ℕ) → finding_of r ≡ scan (early_rows b f) → r ≡ Broken w p → finding_of r ≡ scan (part_rows grouped stroked n c records)
-  part_broken r w p e h = records_broken b f r w p e h ∙ ap scan rows
-
-  module _ (t : Finding) (e : finding_of t ≡ scan (early_rows b f)) (h : t ≡ Clear) where
-    pub part_fits : (r : Finding) → finding_of r ≡ scan (fit_rows f) → finding_of r ≡ scan (part_rows grouped stroked n c records)
-    part_fits r q = records_fit b f t r e h q ∙ ap scan rows
-
+  module _ (e : None ≡ scan (early_rows b f)) where
     -- where the records are grouped, the cores are by the counts and the order is kept
     counted : grouped ≡ true → (i : ℕ) → i < n → at on i ≡ core_by_counts (count_at cores) c i
     counted g i l = subst (λ x. at on i ≡ core_of_position x c records cores i) g (same i l)
@@ -63,12 +62,12 @@ module _ (grouped stroked : Bool) (records cores on : List ℕ) (n c : ℕ) (aft
     ordered : grouped ≡ true → misordered (period_at records) (number_at records) (core_by_counts (count_at cores) c) (count_at cores) n c ≡ false
     ordered g =
         let kept : b ≡ misordered (period_at records) (number_at records) (at on) (count_at cores) n c = rw g at order in
-        sym (order_same (at on) (core_by_counts (count_at cores) c) n c (counted g) (period_at records) (number_at records) (count_at cores)) ∙ sym kept ∙ clear_order b f t e h
+        sym (order_same (at on) (core_by_counts (count_at cores) c) n c (counted g) (period_at records) (number_at records) (count_at cores)) ∙ sym kept ∙ clear_order b f e
 
     -- what rules 13 and 14 need
     pub part_ready : InRange f × (grouped ≡ true → Sorted f)
     part_ready = (
-      clear_range b f t few e h,
+      clear_range b f few e,
       λ g. record {
         cores = λ i j l m. rw (counted g i (omega arith), counted g j m) (core_rises (count_at cores) c i j (omega arith));
         above = λ i j l m q. grouped_sorted (period_at records) (number_at records) (count_at cores) n c (ordered g) i j l m (sym (counted g i (omega arith)) ∙ q ∙ counted g j m);

@@ -5,22 +5,10 @@ use Rattle.fit.specs.Priority.{Above}
 use Rattle.std.specs.Prelude.{Option, None, Some}
 use Rattle.sheet.specs.Ranges.{bad_period, bad_budget, bad_stroke}
 use Rattle.sheet.specs.Records.{Figures}
-use Rattle.checker.specs.declared.early.Test.{Test}
-use Rattle.checker.specs.declared.early.Test.TheVariants.{Period, Budget, Stroke, Core, Factor, Pivot, Stretch}
 use Rattle.std.specs.Prelude.{Result, Ok, Err}
 use Rattle.fit.specs.declared.Break.{Break}
 use Rattle.checker.specs.Rules.{task_rows, core_rows}
 use Rattle.checker.specs.Tests.{bad_core, bare, bad_factor, bad_pivot, stretched_at}
-
--- the rule of a test is broken at a task or core
-abbrev pub broken : Test → Figures → ℕ → Bool
-broken Period f = bad_period f.period
-broken Budget f = bad_budget f.period f.budget
-broken Stroke f = bad_stroke f.budget f.stroke
-broken Core f = bad_core f.cores f.core
-broken Factor f = bad_factor f.factor
-broken Pivot f = bad_pivot f.pivot f.divisor
-broken Stretch f = stretched_at f
 
 -- an array of flags, true exactly for the cores that have one of the n tasks
 pub record Used (n : ℕ) (core : ℕ → ℕ) (used : List Bool) : Type 0 where
@@ -30,10 +18,6 @@ pub record Used (n : ℕ) (core : ℕ → ℕ) (used : List Bool) : Type 0 where
 unfoldable pub judged : Option ℕ → Bool → Result Bool Break
 judged None over = Ok over
 judged (Some i) over = Err (record { task = i })
-
--- the first core that is over, of those before core k (`found`) and core k; 255 stands for none
-unfoldable pub first_over : ℕ → ℕ → Bool → ℕ
-first_over found k over = cond over (cond (eqb found 255) k found) found
 
 -- task i keeps rules 7, 8, 25, 9, 11 and 12
 unfoldable pub sound_at : Figures → ℕ → Bool
