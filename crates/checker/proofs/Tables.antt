@@ -8,21 +8,24 @@ use native.Mathlib.Nat.{sub-zero, zero-add}
 use denote.Ref.{Bor}
 use denote.Param.Members.{Mut}
 use Rattle.std.specs.Prelude.{Option, None, Some, Result, Ok, Err, MatchOption, MatchBool, option_map}
-use Rattle.core.specs.declared.iter.ranges.Range.{Range}
-use Rattle.core.specs.Fn.{Called, CalledAt}
-use Rattle.core.specs.Iterator.{YieldsThen}
-use Rattle.core.specs.List.{FoldsTo, AllWithin, range_with_len}
-use Rattle.core.proofs.iter.Yields.{nat_range_steps}
+use Rattle.std.specs.declared.ops.Range.{Range}
+use Rattle.std.specs.Fn.{Called, CalledAt}
+use Rattle.std.specs.Iterator.{YieldsThen}
+use Rattle.std.specs.List.{FoldsTo, AllWithin, range_with_len}
+use Rattle.std.proofs.iter.Yields.{nat_range_steps}
 use Rattle.std.proofs.lemmas.Iterator.{YieldsList-from_range, cases_from_all}
 use Rattle.std.proofs.lemmas.List.FromFn.{length-range_with_len, get_or-range_with_len}
 use lib.ListN.{length}
 use Rattle.std.proofs.lemmas.Iterator.Search.{find_from_yields_List}
-use Rattle.core.specs.Result.{IsErrAnd}
+use Rattle.std.specs.Result.{IsErrAnd}
 use Rattle.sheet.specs.declared.Rejection.{Rejection}
 use Rattle.sheet.specs.Table.{Row, Refused, ◌at◌, scan, whole, core, refusal_of}
-use Rattle.sheet.proofs.Scans.{part_hit, part_skip, row_hit, row_skip}
+use Rattle.sheet.proofs.Scans.{part_hit, row_hit, row_skip}
 use Rattle.fit.specs.Lists.{numbers, find}
 use Rattle.fit.proofs.Words.{find_range}
+use Rattle.sheet.specs.Refusals.{number_of}
+use Rattle.checker.specs.declared.Counts.{Counts}
+use Rattle.checker.specs.Verdict.{Outcome, refused, outcome_of}
 
 -- the first of n tasks or cores at which a test says that a rule is broken
 as_is : (r o : Option ℕ) → option_map (λ x. x) r ≡ o → r ≡ o
@@ -43,7 +46,8 @@ all_of P n u f r ran calls e i h =
     let each : AllWithin P (range_with_len 0 n) 0 (length (range_with_len 0 n)) = rw e at all in
     subst P (get_or-range_with_len 0 n i 0 h ∙ zero-add i) (each i 0 zero-le (rw (length-range_with_len 0 n) h))
 
-handed : {A : Type 0} (g : Result A (Rejection ℕ)) (r : Rejection ℕ) (x : Option Refused) → IsErrAnd g (λ e. e ≡ r) → refusal_of {A = A} (Err r) ≡ x → refusal_of g ≡ x
+-- what a `?` hands on
+pub handed : {A : Type 0} (g : Result A (Rejection ℕ)) (r : Rejection ℕ) (x : Option Refused) → IsErrAnd g (λ e. e ≡ r) → refusal_of {A = A} (Err r) ≡ x → refusal_of g ≡ x
 handed (Ok v) r x i e = absurd i
 handed (Err w) r x i e = rw i e
 
@@ -82,3 +86,8 @@ module _ {A : Type 0} (f : Result A (Rejection ℕ)) (k : ℕ) where
 
   pub core_end : (o p : Option ℕ) → refusal_of f ≡ scan (k at core o ∷ []) → o ≡ p → refusal_of f ≡ scan (k at core p ∷ [])
   core_end o p e h = row_end _ (core p) e (ap core h)
+
+-- the answer that a `?` hands on
+pub answered : (g : Result Counts (Rejection ℕ)) (r : Rejection ℕ) {x : Outcome} → IsErrAnd g (λ e. e ≡ r) → refused (number_of r.word) r.place ≡ x → outcome_of g ≡ x
+answered (Ok v) r i e = absurd i
+answered (Err w) r i e = rw i e

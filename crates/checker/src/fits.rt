@@ -34,17 +34,19 @@ fn level_sum(load: u64, times: u32, e: u16, divisor: u32) -> u64
 }
 
 // What is said of a core that is over: a broken chain comes first.
-fn judge_over(tasks: &[u8], list: &[u8]) -> Result<bool, Break>
+fn judge_over(tasks: &[u8], list: &[u8]) -> Result<bool, Rejection>
     ensures { result ≡ judged (chain_break (factor_at tasks.now) 1 list.now) true }
 {
-    fit::chain_of(tasks, list)?;
-    Ok(true)
+    match fit::chain_of(tasks, list) {
+        Ok(_) => Ok(true),
+        Err(Break { task }) => Err(Refusal::Chain.at(u16::from(task))),
+    }
 }
 
 // Rules 13 and 14 over the tasks of core k in priority order, in one pass: whether it is over. `load` is that of the tasks passed at the
 // factor `last` of the last of them, `room` the least that one of them has to spare: before the first it is 2^40, above what any stroke takes.
-fn judge(r: &Records, k: u8, list: &[u8]) -> Result<bool, Break>
-    requires { Each (λ i. (10 * i + 10 ≤ length r.now.tasks.now) × (0 < (figures_by r.now).factor i)) list.now }
+fn judge(r: &Records, k: u8, list: &[u8]) -> Result<bool, Rejection>
+    requires { (10 * r.now.n ≤ length r.now.tasks.now) × InRange (figures_by r.now) × Each (λ i. i < r.now.n) list.now }
     ensures { result ≡ judged (chain_break (figures_by r.now).factor 1 list.now) (level_overloaded (figures_by r.now).budget (figures_by r.now).stroke (figures_by r.now).factor ((figures_by r.now).pivot k) ((figures_by r.now).divisor k) list.now) }
 {
     let pivot = sheet::pivot(r.cores, k);
@@ -58,7 +60,7 @@ fn judge(r: &Records, k: u8, list: &[u8]) -> Result<bool, Break>
         let m = sheet::factor(record, 0);
         let times = m / last;
         if times * last != m {
-            return Err(Break { task });
+            return Err(Refusal::Chain.at(u16::from(task)));
         }
         if room < fit::held(sheet::stroke(r.stroked, record, 0), divisor) {
             return judge_over(r.tasks, list);
@@ -85,10 +87,8 @@ pub(crate) fn fit_rules(sorted: bool, r: &Records) -> Result<(), Rejection>
     let mut from = 0;
     for k in 0..r.c {
         let to = order::end_on(&list, r.on, r.n, from, k);
-        match judge(r, k, &list[from..to]) {
-            Err(Break { task }) => return Err(Refusal::Chain.at(u16::from(task))),
-            Ok(over) => found = found.or(over.then_some(k)),
-        }
+        let over = judge(r, k, &list[from..to])?;
+        found = found.or(over.then_some(k));
         from = to;
     }
     refuse_core(found, Refusal::Overload)

@@ -41,12 +41,12 @@ pub(crate) fn framing(sheet: &[u8]) -> Result<(), Rejection>
 // Rule 6.
 
 // A spare byte of the part from byte 8 on.
-fn spare(records: &[u8], at: usize) -> Result<(), Rejection>
-    requires { at < 65528 }
-    ensures { refusal_of result ≡ scan (6 at offset (find (is_set records.now) (at ∷ [])) ∷ []) }
+fn spare(records: &[u8], x: usize) -> Result<(), Rejection>
+    requires { x < 65528 }
+    ensures { refusal_of result ≡ scan (6 at offset (find (is_set records.now) (x ∷ [])) ∷ []) }
 {
-    if sheet::byte(records, at) != 0 {
-        return Err(Refusal::Spare.at(8 + at as u16));
+    if sheet::byte(records, x) != 0 {
+        return Err(Refusal::Spare.at(8 + x as u16));
     }
     Ok(())
 }
