@@ -2,8 +2,10 @@
 -- Assumes nothing.
 use Prim.Native.Nat.{ℕ, zero, suc, ◌+◌, ◌-◌, ◌*◌, ◌/◌, ◌≤◌, ◌<◌}
 use mathlib.Core.Path.{◌≡◌}
-use native.Mathlib.Nat.{mul-one, mul-suc, mul_comm, mul_right_comm, mul-zero, mul-add, add-mul, one-mul, lt-mul-div-succ, mul-div-le, div-lt_iff_lt-mul, mul-le-mul_right, le_of_mul-le-mul_left, le_of_mul-le-mul_right, mul-pos, le_antisymm}
+use native.Mathlib.Nat.{mul-one, mul-suc, mul_comm, mul_right_comm, mul-zero, mul-add, add-mul, one-mul, lt-mul-div-succ, mul-div-le, div-lt_iff_lt-mul, mul-le-mul_right, le_of_mul-le-mul_left, le_of_mul-le-mul_right, lt_of_mul-lt-mul_right, mul-pos, le_antisymm}
 use native.Mathlib.Omega.{arith}
+use Rattle.std.specs.Int.{div_ceil}
+use Rattle.std.proofs.lemmas.Grind.{div_ceil_times}
 use Rattle.fit.specs.Rounding.{ceiling}
 
 module _ (a y : ℕ) (pos : 0 < y) where
@@ -43,3 +45,10 @@ ceiling_scale a y z pos posz =
     let C : ℕ = ceiling (a * z) (y * z) in
     let down : a * z ≤ y * C * z = rw (mul_right_comm y C z) (ceiling_reaches (a * z) (y * z) (mul-pos pos posz)) in
     le_antisymm (ceiling_least (a * z) (y * z) (mul-pos pos posz) (ceiling a y) up) (ceiling_least a y pos C (le_of_mul-le-mul_right down posz))
+
+-- std's word for it
+pub div_ceil_is : (a y : ℕ) → 0 < y → div_ceil a y ≡ ceiling a y
+div_ceil_is a y pos =
+    let t = div_ceil_times a y pos in
+    let less : div_ceil a y * y < (ceiling a y + 1) * y = omega (arith, t.1, ceiling_reaches a y pos, mul_comm y (ceiling a y), add-mul (ceiling a y) 1 y, one-mul y) in
+    le_antisymm (let h : div_ceil a y < ceiling a y + 1 = lt_of_mul-lt-mul_right y less in omega arith) (ceiling_least a y pos (div_ceil a y) (rw (mul_comm y (div_ceil a y)) t.0))

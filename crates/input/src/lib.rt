@@ -5,35 +5,13 @@ ghost use Rattle.std.specs.Prelude.{◌≡◌, ◌<◌, ◌≤◌, length, take,
 ghost use Rattle.std.specs.Io.KnownBytes.{Consumes, IsAtEnd};
 ghost use Rattle.input.specs.Inputs.{IsPrefixLen, Inside};
 
+use arrayvec::ArrayString;
 use std::env::{Env, FillError};
 use std::fmt::Write;
-use std::io::{Input as Source, Read};
-use std::{fmt, io};
+use std::io::{self, Input as Source, Read};
 
 // Room for what an error displays: at most 256 bytes of words and 23 with its number.
 const ROOM: usize = 300;
-
-// What an error displays.
-#[derive(Drop)]
-struct Words {
-    bytes: [u8; ROOM],
-    len: usize,
-    ghost inside: { len ≤ 300 },
-}
-
-impl fmt::Write for Words {
-    fn write_str(&mut self, s: &str) -> fmt::Result {
-        for b in s.as_bytes() {
-            let at = self.len;
-            if ROOM <= at {
-                return Err(fmt::Error);
-            }
-            self.bytes[at] = *b;
-            self.len = at + 1;
-        }
-        Ok(())
-    }
-}
 
 // Reads until the buffer is full or the input ends, and answers how many bytes stand at the buffer's front. An error at any read, also
 // after some bytes, is the answer.
@@ -56,17 +34,10 @@ pub fn fill<R: Read>(reader: &mut R, buf: &mut [u8]) -> io::Result<usize>
 
 // Says on standard error that a stream failed and why. Of what an error of the system displays these are the words without the number.
 pub fn say_failed(rt: &impl Eprint, stream: &str, error: io::Error) {
-    let mut words = Words {
-        bytes: [0; ROOM],
-        len: 0,
-    };
+    let mut words = ArrayString::<ROOM>::new();
     let _ = write!(words, "{error}");
-    let n = words.len;
-    let whole = str::from_utf8(&words.bytes[..n]).unwrap_or("");
-    let text = match whole.split_once(" (os error ") {
-        Some((front, _)) => front,
-        None => whole,
-    };
+    let whole = words.as_str();
+    let (text, _) = whole.split_once(" (os error ").unwrap_or((whole, ""));
     let _ = eprintln!(rt; "{stream}: {text}");
 }
 
@@ -75,20 +46,13 @@ pub fn say_failed(rt: &impl Eprint, stream: &str, error: io::Error) {
 pub fn read_input(rt: &(impl Source + Eprint), buf: &mut [u8]) -> Option<usize>
     ensures { Inside result buf.new × (length buf.new ≡ length buf.old) }
 {
-    match fill(&mut rt.reader(), buf) {
-        Ok(n) => Some(n),
-        Err(error) => {
-            say_failed(rt, "standard input", error);
-            None
-        }
-    }
+    fill(&mut rt.reader(), buf)
+        .map_err(|error| say_failed(rt, "standard input", error))
+        .ok()
 }
 
 // Whether there is an argument i; the program's name is argument 0.
 pub fn has_argument(rt: &impl Env, i: usize) -> bool {
     let mut start = [0u8; 1];
-    match rt.arg(i, &mut start) {
-        Ok(_) | Err(FillError::TooLong) => true,
-        Err(FillError::NotPresent) => false,
-    }
+    !matches!(rt.arg(i, &mut start), Err(FillError::NotPresent))
 }

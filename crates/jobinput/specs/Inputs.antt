@@ -12,7 +12,7 @@ Inside None text jobs = Unit {0}
 
 -- the jobs are those of the text, read with the room of the jobs' buffer, which held `before`
 abbrev pub Taken : Option Lengths → (text before jobs : List ℕ) → Type 0
-Taken (Some r) text before jobs = (Ok r.jobs ≡ read_of (room_in before) (finish (room_in before) (take r.text text))) × (jobs ≡ holding (finish (room_in before) (take r.text text)) before)
+Taken (Some r) text before jobs = (Ok r.jobs ≡ read_of (finish (room_in before) (take r.text text))) × (jobs ≡ holding (finish (room_in before) (take r.text text)) before)
 Taken None text before jobs = Unit {0}
 
 -- the place of refusal k is a job: 7, 8 and 15

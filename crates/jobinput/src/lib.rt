@@ -5,7 +5,6 @@ ghost use Rattle.std.specs.Prelude.{◌≡◌, length};
 ghost use Rattle.sheet.specs.Refusals.{number_of};
 ghost use Rattle.jobinput.specs.Inputs.{Inside, Taken, line_named};
 
-use jobtext::{Fault, WrongLine};
 use sheet::{Refusal, Rejection};
 use std::io::Input as Source;
 
@@ -14,16 +13,6 @@ use std::io::Input as Source;
 pub struct Lengths {
     pub text: usize,
     pub jobs: usize,
-}
-
-fn say_line(rt: &impl Eprint, line: u64, fault: Fault) {
-    let _ = match fault {
-        Fault::NoJob => {
-            eprintln!(rt; "line {line} is not a job: a line has a period and a budget")
-        }
-        Fault::Large => eprintln!(rt; "line {line} has a number above 65535"),
-        Fault::Full => eprintln!(rt; "line {line}: more than 64 jobs"),
-    };
 }
 
 // The line of the job at the place of a refusal, if its place is a job.
@@ -46,13 +35,8 @@ fn reason(word: Refusal, empty: bool) -> &'static str {
         Refusal::Period => ": the period is not 1 to 60000",
         Refusal::Budget => ": the budget is not 1 to the period",
         Refusal::NoFit => ": no core takes this job",
-        Refusal::Start => {
-            if empty {
-                ": the start of an empty list is not 0"
-            } else {
-                ": the start is not below the number of jobs"
-            }
-        }
+        Refusal::Start if empty => ": the start of an empty list is not 0",
+        Refusal::Start => ": the start is not below the number of jobs",
         _ => "",
     }
 }
@@ -76,14 +60,14 @@ fn read_text(rt: &impl Eprint, text: &[u8], jobs: &mut [u8]) -> Option<Lengths>
     ensures taken { Taken result text.now jobs.old jobs.new }
 {
     match jobtext::read_jobs(text, jobs) {
-        Err(WrongLine { line, fault }) => {
-            say_line(rt, line, fault);
-            None
-        }
         Ok(length) => Some(Lengths {
             text: text.len(),
             jobs: usize::from(length),
         }),
+        Err(wrong) => {
+            let _ = eprintln!(rt; "{wrong}");
+            None
+        }
     }
 }
 

@@ -33,21 +33,3 @@ minus_falls a b c h = rw (minus_cases a b, minus_cases a c) (by (ltb a b) (ltb a
     by true false e f = absurd (omega (arith, ltb-true a b e, ltb-false a c f))
     by false true e f = record { le = tt }
     by false false e f = record { le = le→leb (a - c) (a - b) (omega arith) }
-
--- of numbers that are small enough it is what the code computes
-module _ (a b : ℕ) (h : a ≤ 7800000) (k : b ≤ 7800000) where
-  signed : to_z w32 a -ℤ to_z w32 b ≡ pos a -ℤ pos b
-  signed = ap₂ ◌-ℤ◌ (to_z_pos w32 a (omega arith)) (to_z_pos w32 b (omega arith))
-
-  small : SFits w32 (pos a -ℤ pos b)
-  small = rw (minus_cases a b) (by (ltb a b))
-    where
-      by : (r : Bool) → SFits w32 (cond r (negsuc (b - suc a)) (pos (a - b)))
-      by true = record { sfits = omega arith }
-      by false = record { sfits = omega arith }
-
-  pub minus_fits : SFits w32 (to_z w32 a -ℤ to_z w32 b)
-  minus_fits = subst (SFits w32) (sym signed) small
-
-  pub minus_is : to_z w32 (of_z w32 (to_z w32 a -ℤ to_z w32 b)) ≡ pos a -ℤ pos b
-  minus_is = to_z-of_z w32 (to_z w32 a -ℤ to_z w32 b) minus_fits ∙ signed

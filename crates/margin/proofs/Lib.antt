@@ -1,6 +1,5 @@
 pub mod Ceilings
 pub mod Difference
-pub mod Signs
 pub mod Requests
 pub mod Search
 pub mod Gather

@@ -1,10 +1,10 @@
-use Prim.Native.Nat.{◌≤◌, ◌-◌}
-use lib.ListN.{length}
-use Rattle.margin.proofs.Requests.{Summed}
+use Rattle.std.proofs.Common.{◌≡◌, ◌+◌, ◌*◌, ◌≤◌, take}
+use Rattle.std.specs.Prelude.{sum_by}
+use Rattle.margin.specs.Steps.{asked}
 use Rattle.margin.proofs.demand_at.Given as goal
 
-abbrev pub invariant-loop-i : goal.invariant-loop-i
-invariant-loop-i l = (l.i ≤ length l.periods) × Summed l.periods l.budgets l.budget l.t l.total l.i
-
-abbrev pub decreases-loop-i : goal.decreases-loop-i
-decreases-loop-i l = length l.periods - l.i
+abbrev pub invariant-loop-task : goal.invariant-loop-task
+invariant-loop-task l = record {
+  sum : l.total ≡ l.budget + sum_by (asked l.t) (take l.task-index l.higher);
+  bound : l.total ≤ 65535 + 120000 * l.task-index;
+}

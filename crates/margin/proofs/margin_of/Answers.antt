@@ -1,16 +1,13 @@
-use Rattle.std.proofs.Common.{rules}
-use Rattle.margin.proofs.Gather.{periods_count, budgets_count}
-use Rattle.margin.proofs.Results.{above_ranged, above_few, period_most, above_margin}
+use Rattle.std.proofs.Common.{◌∙◌, arith}
+use Rattle.std.proofs.lemmas.Int.{ints}
+use Rattle.margin.proofs.Results.{above_ranged, above_margin, period_most}
 use Rattle.margin.proofs.margin_of.Goals as goal
 
-pub slice_bounds-margin_below-end : goal.slice_bounds-margin_below-end
-slice_bounds-margin_below-end c = search (periods_count, rules)
-
-pub slice_bounds-margin_below-end-2 : goal.slice_bounds-margin_below-end-2
-slice_bounds-margin_below-end-2 c = search (budgets_count, rules)
-
-pub margin_below-requires : goal.margin_below-requires
-margin_below-requires c = (search (above_ranged, rules), search (above_few, rules), search (period_most, rules))
+pub ticks_needed-needed-requires : goal.ticks_needed-needed-requires
+ticks_needed-needed-requires c =
+    let higher = c.deref.ensures.0 ∙ c.tasks_above.ensures in
+    (above_ranged _ _ _ c.requires.0 c.requires.1 _ higher, c.deref.ensures.1, period_most _ _ _ c.requires.0 c.requires.1 _ higher _ c.at-task.ensures c.requires.2)
 
 pub returns : goal.returns
-returns c = search (above_margin, rules)
+returns c =
+    above_margin _ _ _ c.requires.0 c.requires.1 _ (c.deref.ensures.0 ∙ c.tasks_above.ensures) _ _ c.ticks_needed-needed.result c.at-task.ensures (omega (arith, ints)) c.ticks_needed-needed.ensures.0
