@@ -13,9 +13,9 @@ use Rattle.fit.specs.Lists.{at}
 use Rattle.figures.specs.Constructions.{Acceleration, Power, least_power, largest_power, sr}
 use Rattle.figures.specs.Meaning.{Sound}
 use Rattle.figures.specs.Passing.{passes, in_range}
-use Rattle.figures.specs.Steps.{Ready, Usable, feasible}
+use Rattle.figures.specs.Steps.{Usable, feasible}
 use Rattle.figures.proofs.Sound.{factors_length, factors_at, factors_rise, factors_bound, in_range_lem, range_factors}
-use Rattle.figures.proofs.Ranges.{periods, pivot_high}
+use Rattle.figures.proofs.Ranges.{Ready, periods, pivot_high}
 use Rattle.figures.proofs.SrLaws.{sr_divisor}
 use Rattle.figures.proofs.LoadLoop.{LoadLoop, load_start, load_turn, load_over, load_end}
 use Rattle.figures.proofs.SrLoop.{SrLoop, sr_start, whole, limit_small_from, power_fits_from, factor_from, factor_is}
