@@ -1,19 +1,18 @@
 -- One pass over a list of tasks, step by step as the code goes: the chain of factors and the load; and bounds of loads.
 -- Assumes nothing.
-use Prim.Native.Nat.{ℕ, ◌+◌, ◌-◌, ◌*◌, ◌/◌, ◌%◌, ◌≤◌, ◌<◌, zero-le}
+use Prim.Native.Nat.{ℕ, ◌+◌, ◌*◌, ◌/◌, ◌%◌, ◌≤◌, ◌<◌}
 use mathlib.Core.Path.{◌≡◌, refl, sym, ◌∙◌}
-use mathlib.Core.Bool.{Bool, true, false, not, ◌&&◌, and-false}
+use mathlib.Core.Bool.{Bool, true, false, true≢false}
 use mathlib.Core.List.{List}
-use native.Mathlib.Nat.{zero-add, mul-zero, mul_assoc, div-zero, mul-le-mul, mul-le-mul_right, mul-div-le, div-le_self, le_trans}
+use native.Mathlib.Nat.{mul_assoc, mul-le-mul, mul-le-mul_right, mul-div-le, div-le_self, le_trans}
 use native.Mathlib.Numerals.{add-one}
 use native.Mathlib.Omega.{arith}
-use borrow.Author.Tests.{le-leb, lt-leb, not-true, not-false}
+use borrow.Author.Tests.{le-leb, eq-eqb, ne_eqb}
 use lib.ListN.{length, get_or, drop, drop_of_length-le}
 use lib.Seq.{drop-cons}
-use lib.Dec.{leb, eqb}
-use Rattle.std.specs.Prelude.{Result, Ok, Err}
+use Rattle.std.specs.Prelude.{Result, Ok, Err, ◌↔◌, sum_by}
+use Rattle.fit.proofs.Words.{sum_std}
 use Rattle.fit.specs.declared.Break.{Break}
-use Rattle.fit.specs.Lists.{sum}
 use Rattle.fit.specs.Fits.{chain_break, last_factor, load}
 use Rattle.fit.specs.Answers.{chain_answer, chained, load_in_range}
 
@@ -25,18 +24,14 @@ pub record Linked (M : ℕ → ℕ) (l : List ℕ) (d i : ℕ) : Type 0 where
 pub link_start : (M : ℕ → ℕ) (l : List ℕ) → Linked M l 1 0
 link_start M l = record { break = refl; last = refl }
 
-module _ (M : ℕ → ℕ) (l : List ℕ) (d i m : ℕ) (r : Bool) (h : i < length l) (k : Linked M l d i) (f : m ≡ M (get_or l i 0)) (t : r ≡ not (eqb (m % d) 0)) where
-  pub link_turn : r ≡ false → Linked M l m (i + 1)
+module _ (M : ℕ → ℕ) (l : List ℕ) (d i m : ℕ) (r : Bool) (h : i < length l) (k : Linked M l d i) (f : m ≡ M (get_or l i 0)) (t : (r ≡ true) ↔ (m % d ≡ 0)) where
+  pub link_turn : r ≡ true → Linked M l m (i + 1)
   unfolding chain_break last_factor
-  link_turn e =
-      let q : eqb (m % d) 0 ≡ true = not-false (eqb (m % d) 0) (sym t ∙ e) in
-      record { break = k.break ∙ rw (add-one i, drop-cons l i 0 h, ← f, q); last = k.last ∙ rw (add-one i, drop-cons l i 0 h, f) }
+  link_turn e = record { break = k.break ∙ rw (add-one i, drop-cons l i 0 h, ← f, eq-eqb (m % d) 0 (t.0 e)); last = k.last ∙ rw (add-one i, drop-cons l i 0 h, f) }
 
-  pub link_break : r ≡ true → ◌≡◌ {A = Result ℕ Break} (Err (record { task = get_or l i 0 })) (chained M l)
+  pub link_break : r ≡ false → ◌≡◌ {A = Result ℕ Break} (Err (record { task = get_or l i 0 })) (chained M l)
   unfolding chain_break chained chain_answer
-  link_break e =
-      let q : eqb (m % d) 0 ≡ false = not-true (eqb (m % d) 0) (sym t ∙ e) in
-      rw (k.break, drop-cons l i 0 h, ← f, q)
+  link_break e = rw (k.break, drop-cons l i 0 h, ← f, ne_eqb (m % d) 0 (λ z. true≢false (sym (t.1 z) ∙ e)))
 
 pub link_end : (M : ℕ → ℕ) (l : List ℕ) (d i : ℕ) → length l ≤ i → Linked M l d i → Ok d ≡ chained M l
 unfolding chain_break last_factor chained chain_answer
@@ -50,50 +45,10 @@ share_bound e d last m he hd hl =
     let b : e * d * (last / m) ≤ 7864200000 * 120000 = mul-le-mul a (le_trans (div-le_self last m) hl) in
     (a, b)
 
-pub share_none : (e d last m : ℕ) → m ≡ 0 → (0 ≡ e * d * (last / m)) × (0 ≤ 943704000000000)
-share_none e d last m h = (rw (h, div-zero, mul-zero), zero-le)
-
--- the load up to place i
-pub record Loaded (e M : ℕ → ℕ) (D L : ℕ) (l : List ℕ) (total i : ℕ) : Type 0 where
-  pub left : total + load e M D L (drop i l) ≡ load e M D L l
-  pub bound : total ≤ i * 943704000000000
-
-pub load_start : (e M : ℕ → ℕ) (D L : ℕ) (l : List ℕ) → Loaded e M D L l 0 0
-load_start e M D L l = record { left = zero-add _; bound = zero-le }
-
-pub load_turn : (e M : ℕ → ℕ) (D L : ℕ) (l : List ℕ) (total i x y s : ℕ) → i < length l → Loaded e M D L l total i → x ≡ e (get_or l i 0) → y ≡ M (get_or l i 0) → s ≡ x * D * (L / y) → s ≤ 943704000000000 → Loaded e M D L l (total + s) (i + 1)
-unfolding sum load
-load_turn e M D L l total i x y s h k ex ey es b =
-    let q : load e M D L (drop i l) ≡ s + load e M D L (drop (i + 1) l) = rw (drop-cons l i 0 h, es, ex, ey, add-one i) in
-    record { left = omega (arith, k.left, q); bound = omega (arith, k.bound) }
-
-pub load_end : (e M : ℕ → ℕ) (D L : ℕ) (l : List ℕ) (total i : ℕ) → D ≤ 120000 → L ≤ 120000 → length l ≤ 64 → length l ≤ i → Loaded e M D L l total i → total ≡ load_in_range e M D L l
-unfolding sum load load_in_range
-load_end e M D L l total i a b c h k =
-    let q : load e M D L (drop i l) ≡ 0 = rw (drop_of_length-le l {i = i} h) in
-    let t : total ≡ load e M D L l = omega (arith, k.left, q) in
-    rw (le-leb D 120000 a, le-leb L 120000 b, le-leb (length l) 64 c) t
-
--- the load out of range is 0
-module _ (e M : ℕ → ℕ) (D L : ℕ) (l : List ℕ) where
-  pub divisor_out : 120000 < D → 0 ≡ load_in_range e M D L l
-  unfolding load_in_range
-  divisor_out h = rw (lt-leb D 120000 h)
-
-  pub last_out : 120000 < L → 0 ≡ load_in_range e M D L l
-  unfolding load_in_range
-  last_out h = rw (lt-leb L 120000 h, and-false (leb D 120000))
-
-  pub length_out : 64 < length l → 0 ≡ load_in_range e M D L l
-  unfolding load_in_range
-  length_out h = rw (lt-leb (length l) 64 h, and-false (leb D 120000 && leb L 120000))
-
--- what a stroke takes, where the divisor is of four bytes
-pub held_bound : (q d : ℕ) → q < 256 → d < 4294967296 → (q - 1) * d ≤ 1095216660225
-held_bound q d hq hd =
-    let a : q - 1 ≤ 255 = omega arith in
-    let b : d ≤ 4294967295 = omega arith in
-    mul-le-mul a b
+-- the load within the ranges
+pub load_whole : (e M : ℕ → ℕ) (D L r : ℕ) (l : List ℕ) → D ≤ 120000 → L ≤ 120000 → length l ≤ 64 → r ≡ sum_by (λ i. e i * D * (L / M i)) l → r ≡ load_in_range e M D L l
+unfolding load load_in_range
+load_whole e M D L r l a b c h = rw (le-leb D 120000 a, le-leb L 120000 b, le-leb (length l) 64 c) (h ∙ sym (sum_std (λ i. e i * D * (L / M i)) l))
 
 -- the two parts of the load at a task, where the load before it was within the greatest pivot
 pub level_bound : (above d m e D : ℕ) → above ≤ 65535 * d → m < 4294967296 → e < 65536 → D < 4294967296 → (above * (m / d) ≤ 281470681677825) × (e * D ≤ 281470681677825)

@@ -8,6 +8,8 @@ use Rattle.sheet.proofs.Options.{some-ne-none, none-ne-some}
 use mathlib.Core.List.{List, [], ◌∷◌, ◌++◌}
 use Rattle.std.specs.Prelude.{Result, Ok, Err}
 use Rattle.sheet.specs.declared.Rejection.{Rejection}
+use Rattle.sheet.specs.declared.Refusal.{Refusal}
+use Rattle.sheet.specs.Refusals.{number_of}
 use Rattle.sheet.specs.Table.{Refused, Row, ◌at◌, scan, whole, core, refused_by, refusal_of}
 
 pub scan_none : None ≡ scan []
@@ -17,6 +19,11 @@ scan_none = refl
 pub scan_hit : (k p : ℕ) (o : Option ℕ) (rows : List Row) → Some p ≡ o → Some (record { number = k; place = p }) ≡ scan (k at o ∷ rows)
 unfolding scan
 scan_hit k p o rows e = rw (← e)
+
+-- a refusal that the code makes of a word and a place
+pub scan_at : (r : Rejection ℕ) (word : Refusal) (k p : ℕ) (o : Option ℕ) (rows : List Row) → r ≡ record { word = word; place = p } → number_of word ≡ k → Some p ≡ o → Some (refused_by r) ≡ scan (k at o ∷ rows)
+unfolding scan
+scan_at r word k p o rows e n h = rw (← h, e, n)
 
 pub scan_skip : (k : ℕ) (o : Option ℕ) (rows : List Row) (x : Option Refused) → None ≡ o → x ≡ scan rows → x ≡ scan (k at o ∷ rows)
 unfolding scan
@@ -50,6 +57,10 @@ found_at o r i e h = rw h at e
 
 pub found_none : (o r : Option ℕ) → r ≡ o → r ≡ None → None ≡ o
 found_none o r e h = rw h at e
+
+-- the same with the place in another type
+pub found_place : (o r : Option ℕ) (i x : ℕ) → r ≡ o → r ≡ Some i → x ≡ i → Some x ≡ o
+found_place o r i x e h z = rw z (found_at o r i e h)
 
 pub core_at : (o : Option ℕ) (k : ℕ) → Some k ≡ o → Some (64 + k) ≡ core o
 unfolding core

@@ -2,7 +2,7 @@
 // Every reader is total: what stands past the end reads as 0.
 #![tactic(auto)]
 
-ghost use Rattle.std.specs.Prelude.{◌≡◌, ◌+◌, ◌*◌, ◌≤◌, get_or};
+ghost use Rattle.std.specs.Prelude.{◌≡◌, ◌+◌, ◌*◌, ◌≤◌, get_or, drop};
 ghost use Rattle.sheet.specs.Refusals.{number_of};
 ghost use Rattle.sheet.specs.Ranges.{out_of};
 ghost use Rattle.sheet.specs.Numbers.{word, long};
@@ -14,31 +14,31 @@ use std::fmt;
 // The refusals by their words, in the order of their numbers (docs/SHEET.md, section 9).
 #[derive(Clone, Copy, Debug, PartialEq, Eq)]
 pub enum Refusal {
-    Stub,
-    Mark,
-    Version,
-    Count,
-    Length,
-    Spare,
-    Period,
-    Budget,
-    Core,
-    Bare,
-    Factor,
-    Stretch,
-    Chain,
-    Overload,
-    NoFit,
-    Tight,
-    Unlisted,
-    Early,
-    Late,
-    Quiet,
-    Foreign,
-    Start,
-    Order,
-    Row,
-    Stroke,
+    Stub = 1,
+    Mark = 2,
+    Version = 3,
+    Count = 4,
+    Length = 5,
+    Spare = 6,
+    Period = 7,
+    Budget = 8,
+    Core = 9,
+    Bare = 10,
+    Factor = 11,
+    Stretch = 12,
+    Chain = 13,
+    Overload = 14,
+    NoFit = 15,
+    Tight = 16,
+    Unlisted = 17,
+    Early = 18,
+    Late = 19,
+    Quiet = 20,
+    Foreign = 21,
+    Start = 22,
+    Order = 23,
+    Row = 24,
+    Stroke = 25,
 }
 
 // Why something is refused, and at which place: a task, 64 plus a core, an offset, or 0 (docs/SHEET.md, section 9).
@@ -69,90 +69,52 @@ impl From<Refusal> for u8 {
     ghost from_gives = { λ word n. n ≡ number_of word };
 
     fn from(word: Refusal) -> u8 {
-        match word {
-            Refusal::Stub => 1,
-            Refusal::Mark => 2,
-            Refusal::Version => 3,
-            Refusal::Count => 4,
-            Refusal::Length => 5,
-            Refusal::Spare => 6,
-            Refusal::Period => 7,
-            Refusal::Budget => 8,
-            Refusal::Core => 9,
-            Refusal::Bare => 10,
-            Refusal::Factor => 11,
-            Refusal::Stretch => 12,
-            Refusal::Chain => 13,
-            Refusal::Overload => 14,
-            Refusal::NoFit => 15,
-            Refusal::Tight => 16,
-            Refusal::Unlisted => 17,
-            Refusal::Early => 18,
-            Refusal::Late => 19,
-            Refusal::Quiet => 20,
-            Refusal::Foreign => 21,
-            Refusal::Start => 22,
-            Refusal::Order => 23,
-            Refusal::Row => 24,
-            Refusal::Stroke => 25,
-        }
+        word as u8
     }
 }
 
 // Whether a number is not in the range 1 to `max`.
+#[tactic(auto, unfolding(crate::specs::Ranges::out_of))]
 pub fn out_of(max: u32, x: u32) -> bool
     ensures { result ≡ out_of max x }
 {
-    (x == 0) | (max < x)
+    !(1..=max).contains(&x)
 }
 
 // The byte at a place.
 pub fn byte(part: &[u8], at: usize) -> u8
     ensures { result ≡ get_or part.now at 0 }
 {
-    if at < part.len() {
-        return part[at];
-    }
-    0
+    part.get(at).copied().unwrap_or(0)
 }
 
-fn join8(low: u8, high: u8) -> u16
-    ensures { result ≡ low + 256 * high }
+// What stands from a place on.
+fn after(part: &[u8], at: usize) -> &[u8]
+    ensures { result.now ≡ drop at part.now }
 {
-    (low as u16) + 256 * (high as u16)
-}
-
-fn join16(low: u16, high: u16) -> u32
-    ensures { result ≡ low + 65536 * high }
-{
-    (low as u32) + 65536 * (high as u32)
+    part.get(at..).unwrap_or_default()
 }
 
 // The number of two bytes at a place, low byte first.
+#[tactic(auto, using(crate::proofs::Past::word_after, crate::proofs::Past::word_last))]
 pub fn read_word(part: &[u8], at: usize) -> u16
     ensures { result ≡ word part.now at }
 {
-    if at < part.len() {
-        if 2 <= part.len() - at {
-            return join8(part[at], part[at + 1]);
-        }
-        return join8(part[at], 0);
+    match after(part, at) {
+        [low, high, ..] => u16::from_le_bytes([*low, *high]),
+        rest => u16::from(byte(rest, 0)),
     }
-    0
 }
 
 // The number of four bytes at a place, low byte first.
+#[tactic(auto, using(crate::proofs::Past::long_after, crate::proofs::Past::long_words))]
 pub fn read_long(part: &[u8], at: usize) -> u32
     ensures { result ≡ long part.now at }
 {
-    if at < part.len() {
-        if 4 <= part.len() - at {
-            let low = join8(part[at], part[at + 1]);
-            return join16(low, join8(part[at + 2], part[at + 3]));
-        }
-        return join16(read_word(part, at), read_word(part, at + 2));
+    match after(part, at) {
+        [a, b, c, d, ..] => u32::from_le_bytes([*a, *b, *c, *d]),
+        rest => u32::from(read_word(rest, 0)) + 65536 * u32::from(read_word(rest, 2)),
     }
-    0
 }
 
 // Whether a sheet is of version 2, whose task records stand core by core.
@@ -173,7 +135,7 @@ pub fn is_stroked(sheet: &[u8]) -> bool
 pub fn offset(size: u8, i: u8) -> usize
     ensures { (result ≡ size * i) × (result ≤ 65025) }
 {
-    (size as usize) * (i as usize)
+    usize::from(size) * usize::from(i)
 }
 
 // The records of a sheet, by position: the task records, the core records and the core of each position, of n tasks and c cores; `stroked`
@@ -193,26 +155,26 @@ pub struct Records<'a> {
 pub fn period(tasks: &[u8], i: u8) -> u16
     ensures { result ≡ period_at tasks.now i }
 {
-    read_word(tasks, 10 * (i as usize))
+    read_word(tasks, 10 * usize::from(i))
 }
 
 pub fn budget(tasks: &[u8], i: u8) -> u16
     ensures { result ≡ budget_at tasks.now i }
 {
-    read_word(tasks, 10 * (i as usize) + 2)
+    read_word(tasks, 10 * usize::from(i) + 2)
 }
 
 pub fn core(tasks: &[u8], i: u8) -> u8
     ensures { result ≡ core_at tasks.now i }
 {
-    byte(tasks, 10 * (i as usize) + 4)
+    byte(tasks, 10 * usize::from(i) + 4)
 }
 
 // In version 2 the same byte is the task's old number.
 pub fn old_number(tasks: &[u8], j: u8) -> u8
     ensures { result ≡ number_at tasks.now j }
 {
-    byte(tasks, 10 * (j as usize) + 4)
+    byte(tasks, 10 * usize::from(j) + 4)
 }
 
 // The stroke length of position j: byte 5 in version 3, else 1.
@@ -220,15 +182,16 @@ pub fn stroke(stroked: bool, tasks: &[u8], j: u8) -> u8
     ensures { result ≡ stroke_of_position stroked tasks.now j }
 {
     if stroked {
-        return byte(tasks, 10 * (j as usize) + 5);
+        byte(tasks, 10 * usize::from(j) + 5)
+    } else {
+        1
     }
-    1
 }
 
 pub fn factor(tasks: &[u8], i: u8) -> u32
     ensures { result ≡ factor_at tasks.now i }
 {
-    read_long(tasks, 10 * (i as usize) + 6)
+    read_long(tasks, 10 * usize::from(i) + 6)
 }
 
 // The fields of core k. `cores` is the sheet's part after the last task.
@@ -236,18 +199,18 @@ pub fn factor(tasks: &[u8], i: u8) -> u32
 pub fn pivot(cores: &[u8], k: u8) -> u16
     ensures { result ≡ pivot_at cores.now k }
 {
-    read_word(cores, 8 * (k as usize))
+    read_word(cores, 8 * usize::from(k))
 }
 
 // In version 2 the core's task count.
 pub fn count(cores: &[u8], k: u8) -> u8
     ensures { result ≡ count_at cores.now k }
 {
-    byte(cores, 8 * (k as usize) + 2)
+    byte(cores, 8 * usize::from(k) + 2)
 }
 
 pub fn divisor(cores: &[u8], k: u8) -> u32
     ensures { result ≡ divisor_at cores.now k }
 {
-    read_long(cores, 8 * (k as usize) + 4)
+    read_long(cores, 8 * usize::from(k) + 4)
 }
