@@ -1,6 +1,6 @@
 -- Rule 10: the flags of the cores that have a task, as the code sets and reads them.
 -- Assumes nothing.
-use Prim.Native.Nat.{ℕ, suc, ◌+◌, ◌≤◌, ◌<◌}
+use Prim.Native.Nat.{ℕ, suc, ◌+◌, ◌<◌}
 use mathlib.Core.Path.{◌≡◌, refl, sym, ap, ◌∙◌}
 use mathlib.Core.Bool.{Bool, true, false, not, cond, ◌&&◌, and-true, and-false}
 use Rattle.std.specs.Prelude.{Option, None, Some}
@@ -15,10 +15,10 @@ use lib.Seq.{get_or-set_same, get_or-set_other}
 use lib.Dec.{eqb}
 use Rattle.fit.specs.Lists.{numbers, find, or_else}
 use Rattle.fit.proofs.Lists.{numbers_last}
-use Rattle.fit.proofs.Finds.{Left, find_hit, find_turn}
 use Rattle.fit.proofs.Firsts.{find_append}
 use Rattle.fit.specs.Priority.{is_on}
 use Rattle.checker.specs.Tests.{is_none, bare}
+use Rattle.checker.proofs.Columns.{find_same}
 use Rattle.checker.specs.Steps.{Used}
 
 -- of the first i tasks
@@ -55,15 +55,6 @@ flags_turn core i x used e small f = record { size = length-set used x true ∙ 
     by k h (yes z) = rw (z, get_or-set_same used x true false (omega (arith, f.size)), ← e, eq-eqb x x refl) (sym (and-false (bare i core x)))
     by k h (no z) = rw (get_or-set_other used x k true false z, ← e, ne_eqb x k (λ w. z (sym w)), and-true) (f.flags k h)
 
-pub flags_end : (core : ℕ → ℕ) (n i : ℕ) (used : List Bool) → i ≤ n → n ≤ i → Flags core i used → Used n core used
-flags_end core n i used a b f =
-    let e : i ≡ n = omega arith in
-    record { flags = λ k h. rw (← e) (f.flags k h) }
-
 -- the search for a core without a task
-module _ (core : ℕ → ℕ) (n c k : ℕ) (used : List Bool) (h : k < c) (few : c < 256) (u : Used n core used) (l : Left (bare n core) c k) where
-  pub bare_hit : not (get_or used k false) ≡ true → Some k ≡ find (bare n core) (numbers 0 c)
-  bare_hit e = find_hit (bare n core) c k (not (get_or used k false)) h l (u.flags k (omega arith)) e
-
-  pub bare_turn : not (get_or used k false) ≡ false → Left (bare n core) c (k + 1)
-  bare_turn e = find_turn (bare n core) c k (not (get_or used k false)) h l (u.flags k (omega arith)) e
+pub same_bare : (core : ℕ → ℕ) (n c : ℕ) (used : List Bool) (o : Option ℕ) → Used n core used → c < 256 → o ≡ find (λ k. not (get_or used k false)) (numbers 0 c) → o ≡ find (bare n core) (numbers 0 c)
+same_bare core n c used o u few e = e ∙ find_same _ _ 0 c (λ k a h. u.flags k (omega arith))

@@ -17,7 +17,7 @@ use Rattle.checker.specs.Tests.{bad_core, is_none, bare, stretched_at, chain_bre
 use Rattle.checker.specs.Rules.{task_rows, core_rows, fit_rows, record_rows}
 
 -- tests that agree find the same
-find_same : (q r : ℕ → Bool) (a n : ℕ) → ((i : ℕ) → a ≤ i → i < a + n → q i ≡ r i) → find q (numbers a n) ≡ find r (numbers a n)
+pub find_same : (q r : ℕ → Bool) (a n : ℕ) → ((i : ℕ) → a ≤ i → i < a + n → q i ≡ r i) → find q (numbers a n) ≡ find r (numbers a n)
 unfolding find numbers
 find_same q r a zero h = refl
 find_same q r a (suc n) h = rw (h a (omega arith) (omega arith), find_same q r (suc a) n (λ i b c. h i (omega arith) (omega arith)))

@@ -1,4 +1,5 @@
-pub mod Answers
+pub mod Tables
+pub mod Mark
 pub mod Offsets
 pub mod Spares
 pub mod Bare
@@ -6,7 +7,6 @@ pub mod Reading
 pub mod OnePass
 pub mod Judging
 pub mod Columns
-pub mod Clear
 pub mod Parts
 pub mod Acceptance
 pub mod Views

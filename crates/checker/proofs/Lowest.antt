@@ -4,8 +4,8 @@ use Prim.Native.Nat.{ℕ, zero, suc, ◌+◌, ◌*◌, ◌<◌}
 use mathlib.Core.Path.{◌≡◌, refl, sym, ap, ◌∙◌}
 use mathlib.Core.Logic.{◌↔◌}
 use mathlib.Core.Bool.{Bool, true, false, cond, true≢false}
-use mathlib.Core.Option
 use Rattle.std.specs.Prelude.{Option, None, Some}
+use Rattle.std.specs.Option.{option_map}
 use Rattle.sheet.proofs.Options.{none-ne-some}
 use mathlib.Core.List.{List, [], ◌∷◌, ◌++◌, map}
 use native.Mathlib.Omega.{arith}
@@ -103,20 +103,20 @@ core_part false a (suc c) = rw (core_part false (a + 8) c) (simp add_assoc)
 abbrev spare_at : ℕ → Refused
 spare_at x = record { number = 6; place = x }
 
-three : (a b c : Option ℕ) → scan (6 at a ∷ 6 at b ∷ 6 at c ∷ []) ≡ Option.map spare_at (or_else a (or_else b c))
+three : (a b c : Option ℕ) → scan (6 at a ∷ 6 at b ∷ 6 at c ∷ []) ≡ option_map spare_at (or_else a (or_else b c))
 unfolding scan
 three (Some x) b c = refl
 three None (Some x) c = refl
 three None None (Some x) = refl
 three None None None = refl
 
-rows_find : (s : List ℕ) (grouped stroked : Bool) (n c : ℕ) → scan (spare_rows grouped stroked n c s (drop 8 s)) ≡ Option.map spare_at (find (is_set s) (spares grouped stroked n c))
+rows_find : (s : List ℕ) (grouped stroked : Bool) (n c : ℕ) → scan (spare_rows grouped stroked n c s (drop 8 s)) ≡ option_map spare_at (find (is_set s) (spares grouped stroked n c))
 unfolding spare_rows spares
 rows_find s grouped stroked n c =
     let whole : find (is_set s) (spares grouped stroked n c) ≡ or_else (find (is_set s) (7 ∷ [])) (or_else (find (is_set s) (task_spares stroked 8 n)) (find (is_set s) (core_spares grouped (8 + 10 * n) c))) = rw (find_append (is_set s) (7 ∷ []) (task_spares stroked 8 n ++ core_spares grouped (8 + 10 * n) c), find_append (is_set s) (task_spares stroked 8 n) (core_spares grouped (8 + 10 * n) c)) in
     three _ _ _
     ∙ rw (find_part s (task_spares stroked 0 n), find_part s (core_spares grouped (10 * n) c), task_part stroked 0 n, core_part grouped (10 * n) c)
-    (ap (Option.map spare_at) (sym whole))
+    (ap (option_map spare_at) (sym whole))
 
 -- the first of the offsets that is set is the lowest
 lowest_exactly : (s : List ℕ) (x : ℕ) → (find (is_set s) (spares (is_grouped s) (is_stroked s) (task_count s) (core_count s)) ≡ Some x) ↔ LowestSpare s x
@@ -150,6 +150,6 @@ spare_rows_exactly s x = (
   (λ t. (scan_exactly _ 6 x).0 (rows_find s (is_grouped s) (is_stroked s) (task_count s) (core_count s) ∙ rw ((lowest_exactly s x).1 t))),
 )
   where
-    place : (o : Option ℕ) → Option.map spare_at o ≡ Some (record { number = 6; place = x }) → o ≡ Some x
+    place : (o : Option ℕ) → option_map spare_at o ≡ Some (record { number = 6; place = x }) → o ≡ Some x
     place None e = absurd (none-ne-some _ e)
-    place (Some y) e = ap (Option.map (λ (r : Refused). r.place)) e
+    place (Some y) e = ap (option_map (λ (r : Refused). r.place)) e

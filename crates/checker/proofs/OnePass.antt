@@ -3,7 +3,9 @@
 use Prim.Native.Nat.{ℕ, suc, ◌+◌, ◌-◌, ◌*◌, ◌/◌, ◌%◌, ◌≤◌, ◌<◌, min, zero-le}
 use mathlib.Core.Path.{◌≡◌, refl, sym, ◌∙◌}
 use mathlib.Core.Bool.{Bool, true, false, or-true}
-use Rattle.std.specs.Prelude.{Option, None, Some}
+use Rattle.std.specs.Prelude.{Option, None, Some, Result, Ok, Err}
+use Rattle.sheet.specs.declared.Refusal.TheVariants.{Chain}
+use Rattle.sheet.specs.declared.Rejection.{Rejection}
 use mathlib.Core.List.{List, ◌∷◌}
 use native.Mathlib.Nat.{mul-le-mul_right, le_trans, div-add-mod'}
 use native.Mathlib.Numerals.{add-one}
@@ -12,17 +14,14 @@ use borrow.Author.Tests.{lt-ltb, le-ltb, eq-eqb, ne_eqb}
 use lib.Dec.{eqb}
 use lib.ListN.{length, get_or, drop, drop_of_length-le}
 use lib.Seq.{drop-cons}
-use Rattle.sheet.specs.Records.{budget_at, factor_at}
-use Rattle.sheet.specs.Views.{stroke_of_position}
+use Rattle.sheet.specs.Records.{Figures}
 use Rattle.fit.specs.Lists.{Each}
 use Rattle.fit.specs.Fits.{Multiples, chain_break, level_overloaded}
-use Rattle.fit.proofs.Lists.{each_all, each_at, each_of}
+use Rattle.fit.proofs.Lists.{each_at, each_of}
 use Rattle.fit.proofs.Levels.{chain_multiples}
 use Rattle.fit.proofs.Blocking.{over_along, over_from_first, over_exactly}
 use Rattle.fit.proofs.Passes.{level_bound}
-use Rattle.checker.specs.declared.fits.Judged.{Judged}
-use Rattle.checker.specs.declared.fits.Judged.TheVariants.{Chained, Unchained}
-use Rattle.checker.specs.Steps.{judged}
+use Rattle.checker.specs.Steps.{judged, InRange}
 
 -- the quotient tells whether a number is a multiple
 times_rest : (m d : ℕ) → m / d * d ≡ m → eqb (m % d) 0 ≡ true
@@ -42,14 +41,9 @@ pub record Passing (e q M : ℕ → ℕ) (Q D : ℕ) (l : List ℕ) (load d room
   pub above : 0 < d
 
 -- before the first task there is room for every stroke: it is of one byte, and the divisor of four
-pub pass_start : (tasks l : List ℕ) (stroked : Bool) (Q D : ℕ) → ((i : ℕ) → get_or tasks i 0 < 256) → D < 4294967296 → Passing (budget_at tasks) (stroke_of_position stroked tasks) (factor_at tasks) Q D l 0 1 1099511627776 0
+pub pass_start : (e q M : ℕ → ℕ) (Q D : ℕ) (l : List ℕ) → Each (λ i. q i ≤ 255) l → D < 4294967296 → Passing e q M Q D l 0 1 1099511627776 0
 unfolding over_from_first
-pass_start tasks l stroked Q D bytes small =
-    record { chain = refl; over = λ m f. sym (over_exactly _ _ _ Q D 255 l m f (each_all _ l (byte stroked)) (omega arith)); bound = zero-le; above = omega arith }
-  where
-    byte : (b : Bool) (i : ℕ) → stroke_of_position b tasks i ≤ 255
-    byte true i = omega (arith, bytes (10 * i + 5))
-    byte false i = omega arith
+pass_start e q M Q D l short small = record { chain = refl; over = λ m f. sym (over_exactly e q M Q D 255 l m f short (omega arith)); bound = zero-le; above = omega arith }
 
 -- a core that is over
 over_judged : (o : Option ℕ) (b : Bool) → (o ≡ None → b ≡ true) → judged o true ≡ judged o b
@@ -61,7 +55,7 @@ module _ (e q M : ℕ → ℕ) (Q D : ℕ) (l : List ℕ) (load d room i : ℕ) 
   next : drop i l ≡ get_or l i 0 ∷ drop (suc i) l
   next = drop-cons l i 0 h
 
-  pub pass_break : (c * d ≡ m → ⊥) → Unchained (get_or l i 0) ≡ judged (chain_break M 1 l) (level_overloaded e q M Q D l)
+  pub pass_break : (c * d ≡ m → ⊥) → Err (record { word = Chain; place = get_or l i 0 }) ≡ judged (chain_break M 1 l) (level_overloaded e q M Q D l)
   unfolding chain_break judged
   pass_break b =
       let z : eqb (M (get_or l i 0) % d) 0 ≡ false = rw em at (times_break m d (rw ec at b)) in
@@ -71,11 +65,11 @@ module _ (e q M : ℕ → ℕ) (Q D : ℕ) (l : List ℕ) (load d room i : ℕ) 
   pub pass_fits : m < 4294967296 → load * c ≤ 281470681677825
   pass_fits small = rw ec (level_bound load d m 0 0 k.bound small (omega arith) (omega arith)).0
 
-  whole_over : (r : Judged) → (Multiples M 1 l → level_overloaded e q M Q D l ≡ true) → r ≡ judged (chain_break M 1 l) true → r ≡ judged (chain_break M 1 l) (level_overloaded e q M Q D l)
+  whole_over : (r : Result Bool (Rejection ℕ)) → (Multiples M 1 l → level_overloaded e q M Q D l ≡ true) → r ≡ judged (chain_break M 1 l) true → r ≡ judged (chain_break M 1 l) (level_overloaded e q M Q D l)
   whole_over r w t = t ∙ over_judged (chain_break M 1 l) (level_overloaded e q M Q D l) (λ z. w (chain_multiples M 1 l z))
 
   module _ (x s : ℕ) (ex : x ≡ q (get_or l i 0)) (es : s ≡ (x - 1) * D) where
-    pub pass_stroke : (r : Judged) → room < s → r ≡ judged (chain_break M 1 l) true → r ≡ judged (chain_break M 1 l) (level_overloaded e q M Q D l)
+    pub pass_stroke : (r : Result Bool (Rejection ℕ)) → room < s → r ≡ judged (chain_break M 1 l) true → r ≡ judged (chain_break M 1 l) (level_overloaded e q M Q D l)
     unfolding over_along
     pass_stroke r t = whole_over r (λ w. k.over w pos ∙ rw (next, ← ex, ← es, lt-ltb room s t))
 
@@ -86,7 +80,7 @@ module _ (e q M : ℕ → ℕ) (Q D : ℕ) (l : List ℕ) (load d room i : ℕ) 
       full_is : full ≡ Q * M (get_or l i 0)
       full_is = ef ∙ rw em
 
-      pub pass_over : (r : Judged) → full < level → r ≡ judged (chain_break M 1 l) true → r ≡ judged (chain_break M 1 l) (level_overloaded e q M Q D l)
+      pub pass_over : (r : Result Bool (Rejection ℕ)) → full < level → r ≡ judged (chain_break M 1 l) true → r ≡ judged (chain_break M 1 l) (level_overloaded e q M Q D l)
       unfolding over_along
       pass_over r t = whole_over r (λ w. k.over w pos ∙ rw (next, ← level_is, ← full_is, lt-ltb full level t, or-true))
 
@@ -102,16 +96,20 @@ module _ (e q M : ℕ → ℕ) (Q D : ℕ) (l : List ℕ) (load d room i : ℕ) 
             above = rw em (each_at (λ j. 0 < M j) 0 l i h pos);
           }
 
-pub pass_end : (e q M : ℕ → ℕ) (Q D : ℕ) (l : List ℕ) (load d room i : ℕ) → length l ≤ i → Each (λ j. 0 < M j) l → Passing e q M Q D l load d room i → Chained false ≡ judged (chain_break M 1 l) (level_overloaded e q M Q D l)
+pub pass_end : (e q M : ℕ → ℕ) (Q D : ℕ) (l : List ℕ) (load d room i : ℕ) → length l ≤ i → Each (λ j. 0 < M j) l → Passing e q M Q D l load d room i → Ok false ≡ judged (chain_break M 1 l) (level_overloaded e q M Q D l)
 unfolding chain_break over_along judged
 pass_end e q M Q D l load d room i h pos k =
     let whole : chain_break M 1 l ≡ None = k.chain ∙ rw (drop_of_length-le l {i = i} h) in
     let over : level_overloaded e q M Q D l ≡ false = k.over (chain_multiples M 1 l whole) pos ∙ rw (drop_of_length-le l {i = i} h) in
     rw (whole, over)
 
--- the two facts that the code asks of each task
-pub factors_above : (tasks l : List ℕ) → Each (λ i. (10 * i + 10 ≤ length tasks) × (0 < factor_at tasks i)) l → Each (λ j. 0 < factor_at tasks j) l
-factors_above tasks l h = each_of {P = λ i. (10 * i + 10 ≤ length tasks) × (0 < factor_at tasks i)} l (λ i m. m.1) h
+-- what the code knows of each task
+module _ (f : Figures) (l : List ℕ) (r : InRange f) (h : Each (λ i. i < f.tasks) l) where
+  pub factors_above : Each (λ i. 0 < f.factor i) l
+  factors_above = each_of {P = λ i. i < f.tasks} l r.factors h
 
-pub record_inside : (tasks l : List ℕ) (i at : ℕ) → i < length l → at ≡ 10 * get_or l i 0 → Each (λ i. (10 * i + 10 ≤ length tasks) × (0 < factor_at tasks i)) l → at + 10 ≤ length tasks
-record_inside tasks l i at h e p = omega (arith, (each_at (λ i. (10 * i + 10 ≤ length tasks) × (0 < factor_at tasks i)) 0 l i h p).0)
+  pub strokes_short : Each (λ i. f.stroke i ≤ 255) l
+  strokes_short = each_of {P = λ i. i < f.tasks} l r.strokes h
+
+  pub record_inside : (tasks : List ℕ) (i at : ℕ) → 10 * f.tasks ≤ length tasks → i < length l → at ≡ 10 * get_or l i 0 → at + 10 ≤ length tasks
+  record_inside tasks i at long q e = omega (arith, each_at (λ i. i < f.tasks) 0 l i q h)

@@ -44,23 +44,28 @@ module _ (cores : List ℕ) (k a : ℕ) (e : a ≡ 8 * k) where
   divisor_read : divisor_at (take (a + 8 - a) (drop a cores)) 0 ≡ divisor_at cores k
   divisor_read = rw (core_whole, e) (divisor_part cores k 8 (omega arith))
 
--- whether a task keeps its rules: on a core that is there, by what is read of the two records
+-- whether a task keeps its rules: on a core that is there, by the tests of its record and its core's, cut out
 module _ (stroked : Bool) (tasks cores on : List ℕ) (n c i k : ℕ) (ek : k ≡ at on i) where
   pub sound_none : c ≤ k → false ≡ sound_at (figures_with (at on) (stroke_of_position stroked tasks) n c tasks cores) i
   unfolding sound_at bad_core
   sound_none h = rw (← ek, le-leb c k h, or-true)
 
-  module _ (a b Q D p m : ℕ) (period budget stroke factor stretch : Bool) where
-    pub sound_read : k < c → a ≡ 10 * i → b ≡ 8 * k → budget ≡ bad_budget (period_at (take (a + 10 - a) (drop a tasks))) (budget_at (take (a + 10 - a) (drop a tasks))) 0 → stroke ≡ bad_stroke (budget_at (take (a + 10 - a) (drop a tasks))) (stroke_of_position stroked (take (a + 10 - a) (drop a tasks))) 0 → period ≡ bad_period (period_at (take (a + 10 - a) (drop a tasks))) 0 → factor ≡ bad_factor (factor_at (take (a + 10 - a) (drop a tasks))) 0 → Q ≡ pivot_at (take (b + 8 - b) (drop b cores)) 0 → D ≡ divisor_at (take (b + 8 - b) (drop b cores)) 0 → p ≡ period_at (take (a + 10 - a) (drop a tasks)) 0 → m ≡ factor_at (take (a + 10 - a) (drop a tasks)) 0 → stretch ≡ stretched Q D p m → not ((period || (budget || stroke)) || factor || stretch) ≡ sound_at (figures_with (at on) (stroke_of_position stroked tasks) n c tasks cores) i
+  module _ (a b : ℕ) (period budget stroke factor stretch : Bool) where
+    abbrev task : List ℕ
+    task = take (a + 10 - a) (drop a tasks)
+
+    abbrev core : List ℕ
+    core = take (b + 8 - b) (drop b cores)
+
+    pub sound_read : k < c → a ≡ 10 * i → b ≡ 8 * k → budget ≡ out_of (period_at task 0) (budget_at task 0) → stroke ≡ out_of (budget_at task 0) (stroke_of_position stroked task 0) → period ≡ out_of 60000 (period_at task 0) → factor ≡ out_of 120000 (factor_at task 0) → stretch ≡ stretched (pivot_at core 0) (divisor_at core 0) (period_at task 0) (factor_at task 0) → not ((period || (budget || stroke)) || factor || stretch) ≡ sound_at (figures_with (at on) (stroke_of_position stroked tasks) n c tasks cores) i
     unfolding sound_at bad_core bad_period bad_budget bad_stroke bad_factor stretched_at
-    sound_read h ea eb e2 e3 e1 e4 eQ eD ep em es =
-        let P : period_at (take (a + 10 - a) (drop a tasks)) 0 ≡ period_at tasks i = period_read tasks i a ea in
-        let E : budget_at (take (a + 10 - a) (drop a tasks)) 0 ≡ budget_at tasks i = budget_read tasks i a ea in
-        let S : stroke_of_position stroked (take (a + 10 - a) (drop a tasks)) 0 ≡ stroke_of_position stroked tasks i = stroke_read tasks i a ea stroked in
-        let M : factor_at (take (a + 10 - a) (drop a tasks)) 0 ≡ factor_at tasks i = factor_read tasks i a ea in
+    sound_read h ea eb e2 e3 e1 e4 e5 =
+        let P : period_at task 0 ≡ period_at tasks i = period_read tasks i a ea in
+        let E : budget_at task 0 ≡ budget_at tasks i = budget_read tasks i a ea in
+        let M : factor_at task 0 ≡ factor_at tasks i = factor_read tasks i a ea in
         let x1 : period ≡ out_of 60000 (period_at tasks i) = e1 ∙ ap (out_of 60000) P in
         let x2 : budget ≡ out_of (period_at tasks i) (budget_at tasks i) = e2 ∙ rw (P, E) in
-        let x3 : stroke ≡ out_of (budget_at tasks i) (stroke_of_position stroked tasks i) = e3 ∙ rw (E, S) in
+        let x3 : stroke ≡ out_of (budget_at tasks i) (stroke_of_position stroked tasks i) = e3 ∙ rw (E, stroke_read tasks i a ea stroked) in
         let x4 : factor ≡ out_of 120000 (factor_at tasks i) = e4 ∙ ap (out_of 120000) M in
-        let x5 : stretch ≡ stretched (pivot_at cores k) (divisor_at cores k) (period_at tasks i) (factor_at tasks i) = es ∙ rw (eQ, eD, ep, em, P, M, pivot_read cores k b eb, divisor_read cores k b eb) in
+        let x5 : stretch ≡ stretched (pivot_at cores k) (divisor_at cores k) (period_at tasks i) (factor_at tasks i) = e5 ∙ rw (P, M, pivot_read cores k b eb, divisor_read cores k b eb) in
         rw (← ek, lt-leb c k h, ← x1, ← x2, ← x3, ← x4, ← x5)

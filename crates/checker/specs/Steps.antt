@@ -1,39 +1,24 @@
 -- What the code's own steps ask and give; no public contract speaks of it.
-use Rattle.std.specs.Prelude.{ℕ, ◌≤◌, ◌<◌, List, ◌++◌, eqb, ◌≡◌, Bool, false, cond, not, ◌||◌, get_or}
+use Rattle.std.specs.Prelude.{ℕ, ◌≤◌, ◌<◌, List, ◌++◌, ◌≡◌, Bool, false, not, ◌||◌, get_or}
 use Rattle.sheet.specs.Table.{Row}
 use Rattle.fit.specs.Priority.{Above}
 use Rattle.std.specs.Prelude.{Option, None, Some}
 use Rattle.sheet.specs.Ranges.{bad_period, bad_budget, bad_stroke}
 use Rattle.sheet.specs.Records.{Figures}
-use Rattle.checker.specs.declared.early.Test.{Test}
-use Rattle.checker.specs.declared.early.Test.TheVariants.{Period, Budget, Stroke, Core, Factor, Pivot, Stretch}
 use Rattle.std.specs.Prelude.{Result, Ok, Err}
-use Rattle.fit.specs.declared.Break.{Break}
+use Rattle.sheet.specs.declared.Refusal.TheVariants.{Chain}
+use Rattle.sheet.specs.declared.Rejection.{Rejection}
 use Rattle.checker.specs.Rules.{task_rows, core_rows}
-use Rattle.checker.specs.Tests.{bad_core, bare, bad_factor, bad_pivot, stretched_at}
-
--- the rule of a test is broken at a task or core
-abbrev pub broken : Test → Figures → ℕ → Bool
-broken Period f = bad_period f.period
-broken Budget f = bad_budget f.period f.budget
-broken Stroke f = bad_stroke f.budget f.stroke
-broken Core f = bad_core f.cores f.core
-broken Factor f = bad_factor f.factor
-broken Pivot f = bad_pivot f.pivot f.divisor
-broken Stretch f = stretched_at f
+use Rattle.checker.specs.Tests.{bad_core, bare, bad_factor, stretched_at}
 
 -- an array of flags, true exactly for the cores that have one of the n tasks
 pub record Used (n : ℕ) (core : ℕ → ℕ) (used : List Bool) : Type 0 where
   pub flags : (k : ℕ) → k < 256 → not (get_or used k false) ≡ bare n core k
 
 -- rules 13 and 14 at a core: its chain is broken at a task, or is whole, and then the core is over or not
-unfoldable pub judged : Option ℕ → Bool → Result Bool Break
+unfoldable pub judged : Option ℕ → Bool → Result Bool (Rejection ℕ)
 judged None over = Ok over
-judged (Some i) over = Err (record { task = i })
-
--- the first core that is over, of those before core k (`found`) and core k; 255 stands for none
-unfoldable pub first_over : ℕ → ℕ → Bool → ℕ
-first_over found k over = cond over (cond (eqb found 255) k found) found
+judged (Some i) over = Err (record { word = Chain; place = i })
 
 -- task i keeps rules 7, 8, 25, 9, 11 and 12
 unfoldable pub sound_at : Figures → ℕ → Bool
@@ -49,7 +34,9 @@ pub record Sorted (f : Figures) : Type 0 where
   pub cores : (i j : ℕ) → i < j → j < f.tasks → f.core i ≤ f.core j
   pub above : (i j : ℕ) → i < j → j < f.tasks → f.core i ≡ f.core j → Above f.period i j
 
--- what rules 13 and 14 need of the figures: at most 64 tasks, and every M above 0
+-- what rules 13 and 14 need of the figures: at most 64 tasks, on cores and with strokes of one byte, and every M above 0
 pub record InRange (f : Figures) : Type 0 where
   pub count : f.tasks ≤ 64
+  pub cores : (i : ℕ) → i < f.tasks → f.core i < 256
+  pub strokes : (i : ℕ) → i < f.tasks → f.stroke i ≤ 255
   pub factors : (i : ℕ) → i < f.tasks → 0 < f.factor i

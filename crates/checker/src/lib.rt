@@ -2,18 +2,21 @@
 #![tactic(auto)]
 
 mod early;
+mod faults;
 mod fits;
 mod frame;
+mod rows;
 
-ghost use Rattle.std.specs.Prelude.{◌≡◌, ◌&&◌, ◌+◌, ◌*◌, ◌≤◌, length};
+ghost use Rattle.std.specs.Prelude.{◌≡◌, drop};
 ghost use Rattle.sheet.specs.Table.{scan, refusal_of};
-ghost use Rattle.sheet.specs.Records.{period_at, number_at, count_at};
-ghost use Rattle.fit.specs.Lists.{at};
-ghost use Rattle.views.specs.Order.{misordered};
+ghost use Rattle.sheet.specs.Records.{task_count, core_count};
+ghost use Rattle.sheet.specs.Views.{is_grouped, is_stroked};
+ghost use Rattle.checker.specs.Accepted.{Framed};
 ghost use Rattle.checker.specs.Rules.{part_rows, rules};
 ghost use Rattle.checker.specs.Verdict.{verdict, outcome_of};
 
-use sheet::Rejection;
+pub use frame::is_marked;
+use sheet::{Records, Rejection};
 
 // The counts of a sheet.
 #[derive(Clone, Copy, Debug, PartialEq, Eq)]
@@ -22,27 +25,28 @@ pub struct Counts {
     pub cores: u8,
 }
 
-// Whether the records of a version 2 sheet are not in its order.
-fn is_misordered(grouped: bool, tasks: &[u8], cores: &[u8], on: &[u8], n: u8, c: u8) -> bool
-    ensures { result ≡ (grouped && misordered (period_at tasks.now) (number_at tasks.now) (at on.now) (count_at cores.now) n c) }
+// Rules 7 to 14, 23 and 25.
+fn record_rules(sheet: &[u8]) -> Result<(), Rejection>
+    requires { Framed sheet.now }
+    ensures { refusal_of result ≡ scan (part_rows (is_grouped sheet.now) (is_stroked sheet.now) (task_count sheet.now) (core_count sheet.now) (drop 8 sheet.now)) }
 {
-    if grouped {
-        return views::is_misordered(tasks, cores, on, n, c);
-    }
-    false
-}
-
-// Rules 7 to 14, 23 and 25. `records` is the sheet's part from byte 8.
-fn record_rules(grouped: bool, stroked: bool, records: &[u8], n: u8, c: u8) -> Result<(), Rejection>
-    requires { (n ≤ 64) × (10 * n + 8 * c ≤ length records.now) }
-    ensures { refusal_of result ≡ scan (part_rows grouped stroked n c records.now) }
-{
-    let at = 10 * (n as usize);
-    let cores = &records[at..];
-    let on = views::cores_of(grouped, records, cores, n, c);
-    let misordered = is_misordered(grouped, records, cores, &on, n, c);
-    early::early_rules(stroked, records, cores, &on, n, c, misordered)?;
-    fits::fit_rules(grouped, stroked, records, cores, &on, n, c)
+    let n = sheet::byte(sheet, 5);
+    let c = sheet::byte(sheet, 6);
+    let grouped = sheet::is_grouped(sheet);
+    let tasks = &sheet[8..];
+    let cores = &tasks[10 * usize::from(n)..];
+    let on = views::cores_of(grouped, tasks, cores, n, c);
+    let r = Records {
+        stroked: sheet::is_stroked(sheet),
+        tasks,
+        cores,
+        on: &on,
+        n,
+        c,
+    };
+    let misordered = grouped && views::is_misordered(tasks, cores, &on, n, c);
+    early::early_rules(&r, misordered)?;
+    fits::fit_rules(grouped, &r)
 }
 
 // Rules 1 to 14, 23 and 25.
@@ -50,13 +54,8 @@ fn all_rules(sheet: &[u8]) -> Result<(), Rejection>
     ensures { refusal_of result ≡ scan (rules sheet.now) }
 {
     frame::framing(sheet)?;
-    let n = sheet::byte(sheet, 5);
-    let c = sheet::byte(sheet, 6);
-    let grouped = sheet::is_grouped(sheet);
-    let stroked = sheet::is_stroked(sheet);
-    let records = &sheet[8..];
-    frame::spare_rules(sheet, records, n, c, grouped, stroked)?;
-    record_rules(grouped, stroked, records, n, c)
+    frame::spare_rules(sheet)?;
+    record_rules(sheet)
 }
 
 // Checks a sheet: any bytes get the answer of docs/SHEET.md, sections 4, 12 and 14.

@@ -1,21 +1,24 @@
-use Rattle.std.proofs.Common.{rules}
-use Rattle.checker.proofs.Clear.{frame_broken, records_long, cores_long, tasks_few, spare_broken, records_found}
+use Rattle.std.proofs.Common.{arith}
+use Rattle.sheet.proofs.Scans.{part_skip}
+use Rattle.checker.specs.Rules.{rules}
+use Rattle.checker.proofs.Acceptance.{frame_kept}
+use Rattle.checker.proofs.Tables.{part_err}
 use Rattle.checker.proofs.all_rules.Goals as goal
 
-pub returns-in-Broken : goal.returns-in-Broken
-returns-in-Broken c = search frame_broken
+pub returns-in_err-framing : goal.returns-in_err-framing
+unfolding rules
+returns-in_err-framing c = part_err _ c.from_residual.ensures.1 c.in_err-framing.was _ _ c.framing.ensures
 
-pub slice_bounds-records-count : goal.slice_bounds-records-count
-slice_bounds-records-count c = search (records_long, rules)
+pub spare_rules-requires : goal.spare_rules-requires
+spare_rules-requires c = omega (arith, (frame_kept _ c.in_ok-framing.ensures).size)
 
-pub slice_bounds-records-start : goal.slice_bounds-records-start
-slice_bounds-records-start c = search (records_long, rules)
-
-pub returns-in-Broken-found : goal.returns-in-Broken-found
-returns-in-Broken-found c = search spare_broken
+pub returns-in_err-spare_rules : goal.returns-in_err-spare_rules
+unfolding rules
+returns-in_err-spare_rules c = part_skip _ _ _ _ _ c.framing.ensures c.in_ok-framing.was (part_err _ c.from_residual-in_err-spare_rules.ensures.1 c.in_err-spare_rules.was _ _ c.spare_rules.ensures)
 
 pub record_rules-requires : goal.record_rules-requires
-record_rules-requires c = (search tasks_few, search cores_long)
+record_rules-requires c = frame_kept _ c.in_ok-framing.ensures
 
 pub returns : goal.returns
-returns c = search records_found
+unfolding rules
+returns c = part_skip _ _ _ _ _ c.framing.ensures c.in_ok-framing.was (part_skip _ _ _ _ _ c.spare_rules.ensures c.in_ok-spare_rules.was c.record_rules.ensures)

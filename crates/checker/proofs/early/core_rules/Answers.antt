@@ -1,23 +1,30 @@
+use Rattle.std.proofs.Common.{rules}
 use Rattle.checker.specs.Rules.{core_rows}
-use Rattle.sheet.proofs.Scans.{scan_skip, scan_hit, scan_none, found_at, found_none, core_at, core_none}
+use Rattle.checker.proofs.Tables.{first_of, row_err, core_err, row_ok, core_ok, row_end}
 use Rattle.checker.proofs.early.core_rules.Goals as goal
 
-pub returns-in-At : goal.returns-in-At
+pub returns-in_err-refuse_core : goal.returns-in_err-refuse_core
 unfolding core_rows
-returns-in-At c = search (scan_skip, scan_hit, scan_none, found_at, found_none, core_at, core_none) depth 9
+returns-in_err-refuse_core c =
+    core_err _ c.from_residual.ensures.1 c.in_err-refuse_core.was _ _ _ _ c.refuse_core.ensures c.first_bare.ensures
 
-pub returns-in-At-factor : goal.returns-in-At-factor
+pub returns-in_err-refuse : goal.returns-in_err-refuse
 unfolding core_rows
-returns-in-At-factor c = search (scan_skip, scan_hit, scan_none, found_at, found_none, core_at, core_none) depth 9
+returns-in_err-refuse c =
+    core_ok c.in_ok-refuse_core.was _ _ _ _ _ c.refuse_core.ensures c.first_bare.ensures
+    (row_err _ c.from_residual-in_err-refuse.ensures.1 c.in_err-refuse.was _ _ _ _ c.refuse.ensures (first_of _ _ _ _ _ c.find.ensures.ran (λ x b p k. search rules)))
 
-pub returns-in-At-pivot : goal.returns-in-At-pivot
+pub returns-in_err-refuse_core-2 : goal.returns-in_err-refuse_core-2
 unfolding core_rows
-returns-in-At-pivot c = search (scan_skip, scan_hit, scan_none, found_at, found_none, core_at, core_none) depth 9
-
-pub returns-in-At-stretch : goal.returns-in-At-stretch
-unfolding core_rows
-returns-in-At-stretch c = search (scan_skip, scan_hit, scan_none, found_at, found_none, core_at, core_none) depth 9
+returns-in_err-refuse_core-2 c =
+    core_ok c.in_ok-refuse_core.was _ _ _ _ _ c.refuse_core.ensures c.first_bare.ensures
+    (row_ok c.in_ok-refuse.was _ _ _ _ _ c.refuse.ensures (first_of _ _ _ _ _ c.find.ensures.ran (λ x b p k. search rules))
+    (core_err _ c.from_residual-in_err-refuse_core-2.ensures.1 c.in_err-refuse_core-2.was _ _ _ _ c.refuse_core-2.ensures (first_of _ _ _ _ _ c.find-2.ensures.ran (λ x b p k. search rules))))
 
 pub returns : goal.returns
 unfolding core_rows
-returns c = search (scan_skip, scan_hit, scan_none, found_at, found_none, core_at, core_none) depth 9
+returns c =
+    core_ok c.in_ok-refuse_core.was _ _ _ _ _ c.refuse_core.ensures c.first_bare.ensures
+    (row_ok c.in_ok-refuse.was _ _ _ _ _ c.refuse.ensures (first_of _ _ _ _ _ c.find.ensures.ran (λ x b p k. search rules))
+    (core_ok c.in_ok-refuse_core-2.was _ _ _ _ _ c.refuse_core-2.ensures (first_of _ _ _ _ _ c.find-2.ensures.ran (λ x b p k. search rules))
+    (row_end _ _ _ _ c.refuse-2.ensures (first_of _ _ _ _ _ c.find-3.ensures.ran (λ x b p k. search rules)))))

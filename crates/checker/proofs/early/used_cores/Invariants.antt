@@ -1,10 +1,6 @@
-use Prim.Native.Nat.{◌≤◌, ◌-◌}
 use Rattle.fit.specs.Lists.{at}
 use Rattle.checker.proofs.Bare.{Flags}
 use Rattle.checker.proofs.early.used_cores.Given as goal
 
 abbrev pub invariant-loop-i : goal.invariant-loop-i
-invariant-loop-i l = (l.i ≤ l.n) × Flags (at l.on) l.i l.used
-
-abbrev pub decreases-loop-i : goal.decreases-loop-i
-decreases-loop-i l = l.n - l.i
+invariant-loop-i l = Flags (at l.on) l.i l.used

@@ -1,27 +1,39 @@
+use mathlib.Core.Path.{refl}
 use Rattle.checker.specs.Rules.{frame_rows}
-use Rattle.sheet.proofs.Scans.{scan_skip, scan_hit, scan_none, whole_true, whole_false}
+use Rattle.checker.proofs.Tables.{whole_err, whole_ok, whole_end}
 use Rattle.checker.proofs.frame.framing.Goals as goal
 
-pub returns-then-is_stub : goal.returns-then-is_stub
+pub returns-in_err-refuse_if : goal.returns-in_err-refuse_if
 unfolding frame_rows
-returns-then-is_stub c = search (scan_skip, scan_hit, scan_none, whole_true, whole_false) depth 8
+returns-in_err-refuse_if c =
+    whole_err _ c.from_residual.ensures.1 c.in_err-refuse_if.was _ _ _ _ c.refuse_if.ensures refl
 
-pub returns-then-is_unmarked : goal.returns-then-is_unmarked
+pub returns-in_err-refuse_if-2 : goal.returns-in_err-refuse_if-2
 unfolding frame_rows
-returns-then-is_unmarked c = search (scan_skip, scan_hit, scan_none, whole_true, whole_false) depth 8
+returns-in_err-refuse_if-2 c =
+    whole_ok c.in_ok-refuse_if.was _ _ _ _ _ c.refuse_if.ensures refl
+    (whole_err _ c.from_residual-in_err-refuse_if-2.ensures.1 c.in_err-refuse_if-2.was _ _ _ _ c.refuse_if-2.ensures (cc))
 
-pub returns-then-is_other_version : goal.returns-then-is_other_version
+pub returns-in_err-refuse_if-3 : goal.returns-in_err-refuse_if-3
 unfolding frame_rows
-returns-then-is_other_version c = search (scan_skip, scan_hit, scan_none, whole_true, whole_false) depth 8
+returns-in_err-refuse_if-3 c =
+    whole_ok c.in_ok-refuse_if.was _ _ _ _ _ c.refuse_if.ensures refl
+    (whole_ok c.in_ok-refuse_if-2.was _ _ _ _ _ c.refuse_if-2.ensures (cc)
+    (whole_err _ c.from_residual-in_err-refuse_if-3.ensures.1 c.in_err-refuse_if-3.was _ _ _ _ c.refuse_if-3.ensures c.is_other_version.ensures))
 
-pub returns-then-is_over_count : goal.returns-then-is_over_count
+pub returns-in_err-refuse_if-4 : goal.returns-in_err-refuse_if-4
 unfolding frame_rows
-returns-then-is_over_count c = search (scan_skip, scan_hit, scan_none, whole_true, whole_false) depth 8
-
-pub returns-then-is_other_length : goal.returns-then-is_other_length
-unfolding frame_rows
-returns-then-is_other_length c = search (scan_skip, scan_hit, scan_none, whole_true, whole_false) depth 8
+returns-in_err-refuse_if-4 c =
+    whole_ok c.in_ok-refuse_if.was _ _ _ _ _ c.refuse_if.ensures refl
+    (whole_ok c.in_ok-refuse_if-2.was _ _ _ _ _ c.refuse_if-2.ensures (cc)
+    (whole_ok c.in_ok-refuse_if-3.was _ _ _ _ _ c.refuse_if-3.ensures c.is_other_version.ensures
+    (whole_err _ c.from_residual-in_err-refuse_if-4.ensures.1 c.in_err-refuse_if-4.was _ _ _ _ c.refuse_if-4.ensures (cc))))
 
 pub returns : goal.returns
 unfolding frame_rows
-returns c = search (scan_skip, scan_hit, scan_none, whole_true, whole_false) depth 8
+returns c =
+    whole_ok c.in_ok-refuse_if.was _ _ _ _ _ c.refuse_if.ensures refl
+    (whole_ok c.in_ok-refuse_if-2.was _ _ _ _ _ c.refuse_if-2.ensures (cc)
+    (whole_ok c.in_ok-refuse_if-3.was _ _ _ _ _ c.refuse_if-3.ensures c.is_other_version.ensures
+    (whole_ok c.in_ok-refuse_if-4.was _ _ _ _ _ c.refuse_if-4.ensures (cc)
+    (whole_end _ _ _ _ c.refuse_if-5.ensures (cc)))))
