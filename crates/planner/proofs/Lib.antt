@@ -9,5 +9,4 @@ pub mod Decoding
 pub mod Accepting
 pub mod Planning
 pub mod Walking
-pub mod Inside
 pub mod Written
