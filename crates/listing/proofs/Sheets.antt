@@ -1,7 +1,7 @@
 -- The text of any bytes, as the code writes it: the parts of an accepted sheet hold its figures, and each way out gives the answer.
 -- Assumes nothing.
 use Prim.Native.Nat.{ℕ, ◌+◌, ◌-◌, ◌*◌, ◌≤◌, ◌<◌, min}
-use mathlib.Core.Path.{◌≡◌, refl, sym, ap, ap₂, subst, ◌∙◌}
+use mathlib.Core.Path.{◌≡◌, sym, ap, ap₂, subst, ◌∙◌}
 use mathlib.Core.Bool.{Bool, true, false, cond}
 use mathlib.Core.List.{List, ◌++◌}
 use native.Mathlib.Omega.{arith}
@@ -14,7 +14,6 @@ use Rattle.sheet.specs.Refusals.{number_of}
 use Rattle.sheet.specs.Numbers.{word}
 use Rattle.sheet.specs.Records.{Figures, figures_with, task_count, core_count}
 use Rattle.sheet.specs.Views.{is_grouped, is_stroked, core_of_position, stroke_of_position, position_of_number, number_of_position, renumbered, by_position, figures}
-use Rattle.sheet.specs.declared.Refusal.{Refusal}
 use Rattle.fit.specs.Lists.{numbers, at, joined, over}
 use Rattle.fit.specs.Answers.{Column}
 use Rattle.views.specs.Renamed.{Agree}

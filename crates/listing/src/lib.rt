@@ -117,7 +117,12 @@ fn core_line(r: &Records, list: &[u8], k: u8) -> Line
     let load = load_of(r, list, k);
     let mut line = Line::new();
     push_field(&mut line, "core ", u32::from(k), ' ');
-    push_field(&mut line, "pivot ", u32::from(sheet::pivot(r.cores, k)), ' ');
+    push_field(
+        &mut line,
+        "pivot ",
+        u32::from(sheet::pivot(r.cores, k)),
+        ' ',
+    );
     push_field(&mut line, "divisor ", sheet::divisor(r.cores, k), ' ');
     push_field(&mut line, "load ", load, '\n');
     line
@@ -140,8 +145,8 @@ fn put_tasks(out: &mut [u8], from: usize, r: &Records, positions: &[u8]) -> usiz
 {
     let mut at = from;
     for i in 0..r.n {
-        let line = task_line(r, i, sheet::byte(positions, usize::from(i)));
-        at = put(out, at, &line);
+        let j = sheet::byte(positions, usize::from(i));
+        at = put(out, at, &task_line(r, i, j));
     }
     at
 }

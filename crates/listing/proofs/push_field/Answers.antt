@@ -1,4 +1,3 @@
-use Rattle.std.proofs.Common.{rules}
 use Rattle.listing.proofs.Decimals.{field_put}
 use Rattle.listing.proofs.push_field.Goals as goal
 

@@ -1,4 +1,4 @@
-use Rattle.std.proofs.Common.{◌≡◌, ◌*◌, length}
+use Rattle.std.proofs.Common.{◌*◌}
 use Rattle.sheet.specs.Views.{figures_by}
 use Rattle.fit.specs.Lists.{numbers, joined}
 use Rattle.listing.specs.Listing.{core_line}

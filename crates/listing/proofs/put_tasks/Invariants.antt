@@ -1,4 +1,4 @@
-use Rattle.std.proofs.Common.{◌≡◌, ◌*◌, length}
+use Rattle.std.proofs.Common.{◌*◌}
 use Rattle.sheet.specs.Views.{renumbered, figures_by}
 use Rattle.fit.specs.Lists.{numbers, at as column, joined}
 use Rattle.listing.specs.Listing.{task_line}
