@@ -1,12 +1,12 @@
 -- Rules 13 and 14 at one core: what the code finds of its tasks in priority order is what the rules say.
 -- Assumes nothing.
-use Prim.Native.Nat.{ℕ, ◌+◌, ◌-◌, ◌*◌, ◌≤◌, ◌<◌, min}
+use Prim.Native.Nat.{ℕ, ◌+◌, ◌-◌, ◌≤◌, ◌<◌, min}
 use mathlib.Core.Path.{◌≡◌, refl, sym, ap, subst, ◌∙◌}
 use mathlib.Core.Bool.{Bool, true, false, cond}
 use Rattle.std.specs.Prelude.{Option, None, Some, Result, Ok, Err}
-use Rattle.core.specs.Option.{option_or}
-use Rattle.core.specs.Bool.{then_some}
-use Rattle.core.specs.Result.{IsErrAnd}
+use Rattle.std.specs.Option.{option_or}
+use Rattle.std.specs.Bool.{then_some}
+use Rattle.std.specs.Result.{IsErrAnd}
 use mathlib.Core.List.{List, [], ◌∷◌}
 use native.Mathlib.Omega.{arith}
 use native.Mathlib.Nat.{sub-zero}
@@ -15,10 +15,10 @@ use Rattle.sheet.specs.Records.{Figures}
 use Rattle.fit.specs.declared.Break.{Break}
 use Rattle.sheet.specs.declared.Refusal.TheVariants.{Chain}
 use Rattle.sheet.specs.declared.Rejection.{Rejection}
-use Rattle.sheet.specs.Table.{Refused, Row, refused_by, refusal_of, scan, core, ◌at◌}
+use Rattle.sheet.specs.Table.{Row, refused_by, refusal_of, scan, core, ◌at◌}
 use Rattle.sheet.proofs.Scans.{scan_hit, scan_skip}
 use Rattle.fit.specs.Lists.{numbers, find, find_some, padded, Each}
-use Rattle.fit.specs.Priority.{order, Above}
+use Rattle.fit.specs.Priority.{order}
 use Rattle.fit.specs.Fits.{chain_break, last_factor, level_overloaded}
 use Rattle.fit.specs.Answers.{Column, chain_answer, chained}
 use Rattle.fit.proofs.Lists.{each_of}

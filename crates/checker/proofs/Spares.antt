@@ -4,7 +4,7 @@ use Prim.Native.Nat.{ℕ, suc, ◌+◌, ◌-◌, ◌*◌, ◌≤◌, ◌<◌}
 use mathlib.Core.Path.{◌≡◌, refl, sym, ◌∙◌}
 use mathlib.Core.Bool.{Bool, true, false, cond, true≢false, false≢true}
 use Rattle.std.specs.Prelude.{None, Some, Result, Ok, Err}
-use Rattle.core.specs.Result.{IsErrAnd}
+use Rattle.std.specs.Result.{IsErrAnd}
 use Rattle.sheet.proofs.Options.{some-ne-none, none-ne-some}
 use mathlib.Core.List.{List, [], ◌∷◌}
 use native.Mathlib.Omega.{arith}

@@ -8,19 +8,19 @@ use native.Mathlib.Nat.{sub-zero, zero-add}
 use denote.Ref.{Bor}
 use denote.Param.Members.{Mut}
 use Rattle.std.specs.Prelude.{Option, None, Some, Result, Ok, Err, MatchOption, MatchBool, option_map}
-use Rattle.core.specs.declared.iter.ranges.Range.{Range}
-use Rattle.core.specs.Fn.{Called, CalledAt}
-use Rattle.core.specs.Iterator.{YieldsThen}
-use Rattle.core.specs.List.{FoldsTo, AllWithin, range_with_len}
-use Rattle.core.proofs.iter.Yields.{nat_range_steps}
+use Rattle.std.specs.declared.ops.Range.{Range}
+use Rattle.std.specs.Fn.{Called, CalledAt}
+use Rattle.std.specs.Iterator.{YieldsThen}
+use Rattle.std.specs.List.{FoldsTo, AllWithin, range_with_len}
+use Rattle.std.proofs.iter.Yields.{nat_range_steps}
 use Rattle.std.proofs.lemmas.Iterator.{YieldsList-from_range, cases_from_all}
 use Rattle.std.proofs.lemmas.List.FromFn.{length-range_with_len, get_or-range_with_len}
 use lib.ListN.{length}
 use Rattle.std.proofs.lemmas.Iterator.Search.{find_from_yields_List}
-use Rattle.core.specs.Result.{IsErrAnd}
+use Rattle.std.specs.Result.{IsErrAnd}
 use Rattle.sheet.specs.declared.Rejection.{Rejection}
 use Rattle.sheet.specs.Table.{Row, Refused, ◌at◌, scan, whole, core, refusal_of}
-use Rattle.sheet.proofs.Scans.{part_hit, part_skip, row_hit, row_skip}
+use Rattle.sheet.proofs.Scans.{part_hit, row_hit, row_skip}
 use Rattle.fit.specs.Lists.{numbers, find}
 use Rattle.fit.proofs.Words.{find_range}
 use Rattle.sheet.specs.Refusals.{number_of}

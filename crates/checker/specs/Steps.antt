@@ -9,7 +9,7 @@ use Rattle.std.specs.Prelude.{Result, Ok, Err}
 use Rattle.sheet.specs.declared.Refusal.TheVariants.{Chain}
 use Rattle.sheet.specs.declared.Rejection.{Rejection}
 use Rattle.checker.specs.Rules.{task_rows, core_rows}
-use Rattle.checker.specs.Tests.{bad_core, bare, bad_factor, bad_pivot, stretched_at}
+use Rattle.checker.specs.Tests.{bad_core, bare, bad_factor, stretched_at}
 
 -- an array of flags, true exactly for the cores that have one of the n tasks
 pub record Used (n : ℕ) (core : ℕ → ℕ) (used : List Bool) : Type 0 where

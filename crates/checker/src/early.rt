@@ -7,7 +7,10 @@ ghost use Rattle.checker.specs.Tests.{bare};
 ghost use Rattle.checker.specs.Rules.{task_rows, core_rows};
 ghost use Rattle.checker.specs.Steps.{Used, sound_at, early_rows};
 
-use crate::faults::{is_bad_budget, is_bad_core, is_bad_factor, is_bad_period, is_bad_pivot, is_bad_stroke, is_stretched};
+use crate::faults::{
+    is_bad_budget, is_bad_core, is_bad_factor, is_bad_period, is_bad_pivot, is_bad_stroke,
+    is_stretched,
+};
 use crate::rows::{refuse, refuse_core, refuse_if};
 use sheet::{Records, Refusal, Rejection};
 

@@ -15,9 +15,8 @@ ghost use Rattle.checker.specs.Accepted.{Framed};
 ghost use Rattle.checker.specs.Rules.{part_rows, rules};
 ghost use Rattle.checker.specs.Verdict.{verdict, outcome_of};
 
-use sheet::{Records, Rejection};
-
 pub use frame::is_marked;
+use sheet::{Records, Rejection};
 
 // The counts of a sheet.
 #[derive(Clone, Copy, Debug, PartialEq, Eq)]

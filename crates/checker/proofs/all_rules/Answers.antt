@@ -1,6 +1,4 @@
-use mathlib.Core.Path.{sym, ap, ◌∙◌}
 use Rattle.std.proofs.Common.{arith}
-use Rattle.sheet.specs.Table.{refusal_of}
 use Rattle.sheet.proofs.Scans.{part_skip}
 use Rattle.checker.specs.Rules.{rules}
 use Rattle.checker.proofs.Acceptance.{frame_kept}

@@ -1,4 +1,3 @@
-use Rattle.std.proofs.Common.{rules}
 use Rattle.checker.specs.Verdict.{verdict, outcome}
 use Rattle.checker.proofs.Tables.{answered}
 use Rattle.checker.proofs.check.Goals as goal

@@ -1,9 +1,8 @@
-use native.Mathlib.Omega.{arith}
 use Rattle.std.proofs.Common.{rules}
 use mathlib.Core.Path.{refl, ◌∙◌}
 use Rattle.sheet.specs.Views.{figures_by}
 use Rattle.checker.proofs.Reading.{factor_read, budget_read, stroke_read}
-use Rattle.checker.proofs.OnePass.{times_within, pass_start, pass_break, pass_fits, pass_stroke, pass_over, pass_turn, pass_end, factors_above, strokes_short, record_inside}
+use Rattle.checker.proofs.OnePass.{pass_start, pass_break, pass_fits, pass_stroke, pass_over, pass_turn, pass_end, factors_above, strokes_short, record_inside}
 use Rattle.checker.proofs.fits.judge.Goals as goal
 
 pub loop-task-init : goal.loop-task-init

@@ -1,4 +1,3 @@
-use mathlib.Core.Path.{◌∙◌}
 use Rattle.checker.proofs.Judging.{over_broken, over_whole}
 use Rattle.checker.proofs.fits.judge_over.Goals as goal
 

@@ -1,4 +1,4 @@
-use Rattle.std.proofs.Common.{rules, arith}
+use Rattle.std.proofs.Common.{rules}
 use Rattle.checker.specs.Tests.{bad_version}
 use Rattle.checker.proofs.Mark.{known, unknown}
 use Rattle.checker.proofs.frame.is_other_version.Goals.{in-1-to-3, in_default, in_default-2}
