@@ -9,12 +9,12 @@ use Rattle.std.specs.Bool.{then_some}
 use Rattle.std.specs.List.{find as std_find, range_with_len}
 use Rattle.std.specs.Option.{option_or, is_some as std_is_some}
 use Rattle.sheet.proofs.Options.{some-injective, none-ne-some}
-use mathlib.Core.List.{List, [], ◌∷◌, map}
+use mathlib.Core.List.{List, map}
 use native.Mathlib.Numerals.{add-one}
 use native.Mathlib.Omega.{arith}
 use borrow.Author.Tests.{lt-ltb, le-ltb, ltb-true}
 use lib.ListN.{length, take, drop, get_or, set, drop_of_length-le}
-use lib.Seq.{drop-cons, set_out, take_all}
+use lib.Seq.{drop-cons, take_all}
 use lib.Dec.{ltb}
 use Rattle.fit.specs.declared.By.TheVariants.{Period}
 use Rattle.fit.specs.Priority.{is_on}
@@ -32,7 +32,7 @@ use Rattle.figures.specs.Passing.{first_passing}
 use Rattle.figures.specs.Answers.{outcome}
 use Rattle.planner.specs.declared.Assignment.{Assignment}
 use Rattle.planner.specs.FirstFit.{unassigned, core_set, core_figures, is_some, takes, chosen, core_for, assign, placed, unplaced, onward, first_fit}
-use Rattle.planner.specs.Steps.{figures_in, takes_in, core_in, walk_in, fitted}
+use Rattle.planner.specs.Steps.{figures_in, takes_in, core_in, walk_in}
 
 -- a job list of at most 64 entries, and its tasks in priority order
 pub record Prioritized (l order : List ℕ) : Type 0 where

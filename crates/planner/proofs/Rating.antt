@@ -19,16 +19,15 @@ use Rattle.fit.specs.Lists.{select, padded, occurs, Each, EachPair, at, place_of
 use Rattle.fit.proofs.Lists.{each_of}
 use Rattle.fit.proofs.Priority.{order_members, order_rising, order_holds}
 use Rattle.fit.proofs.Selecting.{rising_differ}
-use Rattle.jobs.specs.Jobs.{job_count, job_period, job_budget}
+use Rattle.jobs.specs.Jobs.{job_count, job_period}
 use Rattle.fit.proofs.Lists.{at_padded}
 use Rattle.figures.specs.declared.CoreFigures.{CoreFigures}
-use Rattle.figures.specs.Constructions.{Acceleration, no_figures}
+use Rattle.figures.specs.Constructions.{Acceleration}
 use Rattle.figures.specs.Answers.{written, outcome}
 use Rattle.planner.specs.declared.Assignment.{Assignment}
-use Rattle.planner.specs.FirstFit.{core_set, core_figures}
+use Rattle.planner.specs.FirstFit.{core_set}
 use Rattle.planner.specs.Sheet.{or_zeros, figures_for, factor_for}
 use Rattle.planner.specs.declared.sets.CoreRate.{CoreRate}
-use Rattle.planner.specs.declared.sets.Rates.{Rates}
 use Rattle.planner.specs.Steps.{figures_in, Assigned, spread, rate_at, Rated}
 use Rattle.planner.proofs.Fitting.{Prioritized, picked}
 

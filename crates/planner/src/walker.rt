@@ -5,7 +5,8 @@ ghost use Rattle.jobs.specs.Jobs.{job_count};
 ghost use Rattle.planner.specs.Plan.{fit_of};
 ghost use Rattle.planner.specs.Steps.{takes_in, core_in, walk_in, fitted};
 
-use crate::{Assignment, sets::Jobs};
+use crate::Assignment;
+use crate::sets::Jobs;
 use fit::By;
 use sheet::{Refusal, Rejection};
 
@@ -31,7 +32,8 @@ impl Jobs<'_> {
         requires { a.now.cores ≤ 8 }
         ensures { result ≡ core_in self.now.list.now limit i a.now }
     {
-        self.first_open(a, i).or((a.cores < limit).then_some(a.cores))
+        self.first_open(a, i)
+            .or((a.cores < limit).then_some(a.cores))
     }
 
     // First fit over the tasks of a walk.

@@ -5,8 +5,10 @@ ghost use Rattle.jobs.specs.Jobs.{job_count, job_period, job_budget};
 ghost use Rattle.planner.specs.Sheet.{header, task_record, core_record, sheet_of};
 ghost use Rattle.planner.specs.Steps.{Assigned, task_bytes, core_bytes};
 
-use crate::{Assignment, sets::CoreRate, sets::Jobs};
+use crate::Assignment;
+use crate::sets::{CoreRate, Jobs};
 
+#[tactic(auto, unfolding(fit::specs::Lists::over, crate::specs::Sheet::header))]
 fn put_header(part: &mut [u8], n: u8, c: u8)
     requires { 8 ≤ length part.old }
     ensures { part.new ≡ over (header n c) part.old }

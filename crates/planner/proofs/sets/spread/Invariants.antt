@@ -1,4 +1,4 @@
-use Rattle.std.proofs.Common.{◌≡◌, length, drop}
+use Rattle.std.proofs.Common.{◌≡◌, drop}
 use Rattle.planner.specs.Steps.{spread}
 use Rattle.planner.proofs.sets.spread.Given as goal
 

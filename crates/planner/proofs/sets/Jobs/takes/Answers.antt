@@ -1,4 +1,4 @@
-use Rattle.std.proofs.Common.{rules, ◌∙◌}
+use Rattle.std.proofs.Common.{rules}
 use Rattle.planner.proofs.Fitting.{taken}
 use Rattle.planner.proofs.sets.Jobs.takes.Goals as goal
 

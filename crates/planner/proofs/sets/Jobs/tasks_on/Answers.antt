@@ -1,4 +1,4 @@
-use Rattle.std.proofs.Common.{rules, arith}
+use Rattle.std.proofs.Common.{rules}
 use Rattle.planner.proofs.Gathering.{select_room}
 use Rattle.planner.proofs.Fitting.{prioritized, prioritized_few}
 use Rattle.planner.proofs.sets.Jobs.tasks_on.Goals as goal

@@ -1,4 +1,4 @@
-use Rattle.std.proofs.Common.{rules, arith, ap, sym, ◌∙◌}
+use Rattle.std.proofs.Common.{rules, ap, sym}
 use Rattle.planner.specs.Steps.{fitted}
 use Rattle.planner.proofs.Fitting.{walk_start, walk_stop, walk_turn, walk_end}
 use Rattle.planner.proofs.sets.Jobs.walk.Goals as goal
