@@ -92,7 +92,12 @@ fn write_sheet(out: &mut [u8], sheet: &[u8], n: u8, c: u8, arrangement: Arrangem
     requires { (712 ≤ length out.old) × Sized sheet.now n c }
     ensures { (y : Layout) → Arranged y n c arrangement → (result ≡ length (laid_out y sheet.now)) × (out.new ≡ over (laid_out y sheet.now) out.old) }
 {
-    let Arrangement { version, from, byte4, counts } = arrangement;
+    let Arrangement {
+        version,
+        from,
+        byte4,
+        counts,
+    } = arrangement;
     let at = 8 + 10 * usize::from(n);
     put_header(out, sheet, version);
     put_tasks(&mut out[8..], &sheet[8..], n, from, byte4);
@@ -180,11 +185,11 @@ fn write_other(out: &mut [u8], sheet: &[u8], n: u8, c: u8) -> u16
 }
 
 // Whether a sheet has its mark and is of version 3, which has no other version.
-#[tactic(auto, unfolding(crate::specs::Steps::unmovable))]
+#[tactic(auto, using(checker::proofs::Mark::marked), unfolding(crate::specs::Steps::unmovable))]
 fn is_unmovable(sheet: &[u8]) -> bool
     ensures { result ≡ unmovable sheet.now }
 {
-    sheet.len() >= 8 && checker::is_marked(sheet) && sheet::is_stroked(sheet)
+    sheet.len() >= 8 && sheet.starts_with(b"TSH") && sheet::is_stroked(sheet)
 }
 
 // Writes a sheet of version 1 as one of version 2, and back, into a lent buffer of at least 712 bytes, and returns its length. The bytes past
