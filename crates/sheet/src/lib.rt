@@ -89,26 +89,30 @@ pub fn byte(part: &[u8], at: usize) -> u8
 }
 
 // The number of two bytes at a place, low byte first.
-#[tactic(auto, using(crate::proofs::Past::past_word))]
+#[tactic(auto, using(crate::proofs::Past::past_word, crate::proofs::Past::word_after, crate::proofs::Past::word_last))]
 pub fn read_word(part: &[u8], at: usize) -> u16
     ensures { result ≡ word part.now at }
 {
-    match part.get(at..) {
-        Some([low, high, ..]) => u16::from_le_bytes([*low, *high]),
-        Some(rest) => u16::from(byte(rest, 0)),
-        None => 0,
+    if part.len() <= at {
+        return 0;
+    }
+    match &part[at..] {
+        [low, high, ..] => u16::from_le_bytes([*low, *high]),
+        rest => u16::from(byte(rest, 0)),
     }
 }
 
 // The number of four bytes at a place, low byte first.
-#[tactic(auto, using(crate::proofs::Past::past_long))]
+#[tactic(auto, using(crate::proofs::Past::past_long, crate::proofs::Past::long_after, crate::proofs::Past::long_words))]
 pub fn read_long(part: &[u8], at: usize) -> u32
     ensures { result ≡ long part.now at }
 {
-    match part.get(at..) {
-        Some([a, b, c, d, ..]) => u32::from_le_bytes([*a, *b, *c, *d]),
-        Some(rest) => u32::from(read_word(rest, 0)) + 65536 * u32::from(read_word(rest, 2)),
-        None => 0,
+    if part.len() <= at {
+        return 0;
+    }
+    match &part[at..] {
+        [a, b, c, d, ..] => u32::from_le_bytes([*a, *b, *c, *d]),
+        rest => u32::from(read_word(rest, 0)) + 65536 * u32::from(read_word(rest, 2)),
     }
 }
 
