@@ -92,7 +92,12 @@ fn write_sheet(out: &mut [u8], sheet: &[u8], n: u8, c: u8, arrangement: Arrangem
     requires { (712 ≤ length out.old) × Sized sheet.now n c }
     ensures { (y : Layout) → Arranged y n c arrangement → (result ≡ length (laid_out y sheet.now)) × (out.new ≡ over (laid_out y sheet.now) out.old) }
 {
-    let Arrangement { version, from, byte4, counts } = arrangement;
+    let Arrangement {
+        version,
+        from,
+        byte4,
+        counts,
+    } = arrangement;
     let at = 8 + 10 * usize::from(n);
     put_header(out, sheet, version);
     put_tasks(&mut out[8..], &sheet[8..], n, from, byte4);
