@@ -6,8 +6,7 @@ use mathlib.Core.List.{List, [], ◌∷◌, ◌++◌}
 use native.Mathlib.Nat.{add-zero}
 use native.Mathlib.Numerals.{add-one}
 use native.Mathlib.Omega.{arith}
-use lib.ListN.{length, take, drop, get_or, set, length-append, length-set}
-use lib.Seq.{take_at}
+use lib.ListN.{length, take, drop, get_or, set, length-set}
 use borrow.Rule.Slice.PartMut.{put_mid}
 use Rattle.fit.specs.Lists.{over}
 use Rattle.fit.proofs.Laying.{Laid, lay_turn}

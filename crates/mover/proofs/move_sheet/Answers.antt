@@ -1,4 +1,3 @@
-use Rattle.std.proofs.Common.{rules}
 use Rattle.mover.proofs.Answering.{unmovable_answer, unmovable_output, refused_answer, refused_output, refused_means, accepted_sized, tight_answer, tight_output, moved_answer, moved_output, moved_moving}
 use Rattle.mover.proofs.Moving.{refused_moving}
 use Rattle.mover.proofs.move_sheet.Goals as goal

@@ -1,4 +1,3 @@
-use Rattle.std.proofs.Common.{rules}
 use Rattle.fit.proofs.Laying.{lay_start, lay_end}
 use Rattle.mover.proofs.Records.{core_turn}
 use Rattle.mover.proofs.put_cores.Goals as goal
