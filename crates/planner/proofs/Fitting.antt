@@ -13,7 +13,7 @@ use mathlib.Core.List.{List, map}
 use native.Mathlib.Numerals.{add-one}
 use native.Mathlib.Omega.{arith}
 use borrow.Author.Tests.{lt-ltb, le-ltb, ltb-true}
-use lib.ListN.{length, take, drop, get_or, set, drop_of_length-le}
+use lib.ListN.{length, take, drop, get_or, drop_of_length-le}
 use lib.Seq.{drop-cons, take_all}
 use lib.Dec.{ltb}
 use Rattle.fit.specs.declared.By.TheVariants.{Period}
@@ -86,16 +86,6 @@ chosen_or (Some k) limit cores = refl
 pub core_found : (l : List ℕ) (limit i : ℕ) (a : Assignment) (o : Option ℕ) → o ≡ std_find (takes_in l i a.core) (range_with_len 0 a.cores) → option_or o (then_some (ltb a.cores limit) a.cores) ≡ core_in l limit i a
 unfolding core_for
 core_found l limit i a o h = chosen_or o limit a.cores ∙ ap (λ t. chosen t limit a.cores) (h ∙ find_range _ 0 a.cores)
-
--- a task is put on an open core or on the next new one
-module _ (i k : ℕ) (a : Assignment) (core : List ℕ) (e : core ≡ set a.core i k) where
-  pub assign_open : k < a.cores → record { core = core; cores = a.cores } ≡ assign i k a
-  unfolding assign
-  assign_open h = rw (e, lt-ltb k a.cores h)
-
-  pub assign_new : a.cores ≤ k → record { core = core; cores = a.cores + 1 } ≡ assign i k a
-  unfolding assign
-  assign_new h = rw (e, le-ltb k a.cores h)
 
 -- the core that is found is open, or the next one and below the limit
 pub core_choice : (p e : ℕ → ℕ) (n limit i k : ℕ) (a : Assignment) → Some k ≡ core_for p e n limit i a → ((k < a.cores) × (takes p e n i a.core k ≡ true)) ⊎ ((k ≡ a.cores) × (a.cores < limit))

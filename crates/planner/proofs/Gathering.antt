@@ -7,7 +7,7 @@ use native.Mathlib.Numerals.{add-one}
 use native.Mathlib.Omega.{arith}
 use borrow.Author.Tests.{eq-eqb, ne_eqb}
 use lib.ListN.{length, take, drop, get_or, set, drop_of_length-le}
-use lib.Seq.{take-suc, length-take-le, drop-cons, set_out}
+use lib.Seq.{take-suc, length-take-le, drop-cons}
 use Rattle.fit.specs.Priority.{is_on}
 use Rattle.fit.specs.Lists.{select, at}
 use Rattle.fit.proofs.Lists.{select_append, select_length}
@@ -26,14 +26,10 @@ module _ (core : List ℕ) (k : ℕ) (order : List ℕ) (j : ℕ) (h : j < lengt
   pub select_room : length order ≤ 64 → length (select (is_on (at core) k) (take j order)) < 64
   select_room few = omega (arith, select_length (is_on (at core) k) (take j order), length-take-le j order (omega arith))
 
--- factors put at the numbers of the listed tasks, from place m on; past the array nothing is put
-module _ (own list factors next : List ℕ) (m : ℕ) (h : m < length list) (e : spread own list 0 factors ≡ spread own (drop m list) m next) where
-  pub spread_on : spread own list 0 factors ≡ spread own (drop (m + 1) list) (m + 1) (set next (get_or list m 0) (get_or own m 0))
-  unfolding spread
-  spread_on = e ∙ rw (drop-cons list m 0 h, add-one m)
-
-  pub spread_off : length next ≤ get_or list m 0 → spread own list 0 factors ≡ spread own (drop (m + 1) list) (m + 1) next
-  spread_off past = spread_on ∙ rw (set_out next (get_or list m 0) (get_or own m 0) past)
+-- factors put at the numbers of the listed tasks, from place m on
+pub spread_on : (own list factors next : List ℕ) (m : ℕ) → m < length list → spread own list 0 factors ≡ spread own (drop m list) m next → spread own list 0 factors ≡ spread own (drop (m + 1) list) (m + 1) (set next (get_or list m 0) (get_or own m 0))
+unfolding spread
+spread_on own list factors next m h e = e ∙ rw (drop-cons list m 0 h, add-one m)
 
 pub spread_end : (own list factors next : List ℕ) (m : ℕ) → length list ≤ m → spread own list 0 factors ≡ spread own (drop m list) m next → next ≡ spread own list 0 factors
 unfolding spread

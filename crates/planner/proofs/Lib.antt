@@ -9,4 +9,5 @@ pub mod Decoding
 pub mod Accepting
 pub mod Planning
 pub mod Walking
+pub mod Inside
 pub mod Written
