@@ -1,23 +1,32 @@
 -- What a reader finds in the bytes from a place on. Past their end it reads 0.
 -- Assumes nothing.
-use Prim.Native.Nat.{ℕ, ◌+◌, ◌*◌, ◌<◌, ◌≤◌}
+use Prim.Native.Nat.{ℕ, ◌+◌, ◌-◌, ◌*◌, ◌<◌, ◌≤◌}
 use mathlib.Core.Path.{◌≡◌, sym}
 use mathlib.Core.List.{List}
 use native.Mathlib.Nat.{add-zero}
 use native.Mathlib.Omega.{arith}
-use lib.ListN.{length, drop, get_or, get_or-eq_default}
-use lib.Seq.{get_or-drop}
+use lib.ListN.{length, drop, get_or, get_or-eq_default, length-drop}
+use lib.Seq.{get_or-drop, take_all}
+use Rattle.std.specs.List.{slice_range}
 use Rattle.sheet.specs.Numbers.{word, long}
 
 pub past : (s : List ℕ) (i : ℕ) → length s ≤ i → 0 ≡ get_or s i 0
 past s i h = sym (get_or-eq_default s 0 h)
 
-module _ (s rest : List ℕ) (i r : ℕ) (a : rest ≡ drop i s) where
+pub past_word : (s : List ℕ) (i : ℕ) → length s ≤ i → 0 ≡ word s i
+unfolding word
+past_word s i h = omega (arith, past s i h, past s (i + 1) (omega arith))
+
+pub past_long : (s : List ℕ) (i : ℕ) → length s ≤ i → 0 ≡ long s i
+unfolding long
+past_long s i h = omega (arith, past_word s i h, past_word s (i + 2) (omega arith))
+
+module _ (s rest : List ℕ) (i r : ℕ) (a : rest ≡ slice_range s i (length s)) where
   word_rest : (o : ℕ) → word rest o ≡ word s (i + o)
   unfolding word
   word_rest o =
       let next : i + (o + 1) ≡ i + o + 1 = omega arith in
-      rw (a, get_or-drop i s o 0, get_or-drop i s (o + 1) 0, next)
+      rw (a, take_all (length s - i) (drop i s) (simp length-drop (omega arith)), get_or-drop i s o 0, get_or-drop i s (o + 1) 0, next)
 
   -- two bytes and four, low byte first
   pub word_after : r ≡ get_or rest 0 0 + get_or rest 1 0 * 256 → r ≡ word s i
