@@ -6,33 +6,23 @@ use mathlib.Core.Bool.{Bool, true, false, cond}
 use mathlib.Core.List.{List, [], ◌∷◌, map}
 use native.Mathlib.Nat.{suc-add, zero-add, mul-one, pow-suc, div-add-mod'}
 use native.Mathlib.Decide.{ℕ_discrete}
-use native.Mathlib.Numerals.{add-one}
 use native.Mathlib.Omega.{arith}
-use lib.ListN.{length, take, drop, replicate, length-drop, length-map, take-append-drop}
-use lib.Seq.{length-take-le, take_at}
+use lib.ListN.{length, get_or, take, drop, replicate, length-drop, length-map, take-append-drop}
+use lib.Seq.{length-take-le, take_at, take-take, drop-drop}
 use lib.Dec.{ltb}
 use lib.Arith.{lt_of_le-ne}
 use lib.Bits.{shifted_half, shifted_even, block_half, block_odd}
 use lib.Count.{count_trailing_zeros, under}
-use mir.Val.{Fits}
 use mir.Syntax.{w64}
-use borrow.Author.Tests.{ltb-true, ltb-false, lt-ltb, le-ltb}
-use Rattle.sheet.specs.Numbers.{word, long}
+use borrow.Author.Tests.{ltb-true, ltb-false, le-ltb}
+use Rattle.std.specs.Int.{div_ceil, from_le_bytes}
+use Rattle.std.specs.Simd.{first_chunks}
 use Rattle.fit.specs.Lists.{at, padded, place_of, Each}
-use Rattle.fit.proofs.Finds.{Searched, place_start, place_within, group_hit, group_turn, place_map}
+use Rattle.fit.proofs.Finds.{Searched, place_within, group_hit, group_turn, place_map}
 use Rattle.fit.proofs.Lists.{each_append, each_take, each_halves, padded_length}
 use Rattle.timing.specs.declared.Task.{Task}
 use Rattle.timing.specs.Tasks.{pending}
-use Rattle.marks.specs.Words.{mark, marked, marks_of, Bytes, word_of, word_at, lowest_mark}
-
--- the code's mark of a task
-pub mark_set : (t : Task) → 0 < t.left → 1 ≡ mark t
-unfolding mark pending
-mark_set t h = rw (lt-ltb 0 t.left h)
-
-pub mark_clear : (t : Task) → t.left ≤ 0 → 0 ≡ mark t
-unfolding mark pending
-mark_clear t h = rw (le-ltb 0 t.left h)
+use Rattle.marks.specs.Words.{mark, marked, marks_of, word_of, word_at, lowest_mark}
 
 -- zeros below the lowest set bit: j of them and those of r where r is shifted by j, and fewer where a number below 2 ^ j is added
 zeros_high : (j d r : ℕ) → count_trailing_zeros (j + d) (r * 2 ^ j) ≡ j + count_trailing_zeros d r
@@ -92,12 +82,12 @@ word_some l h = go (ℕ_discrete (place_of marked l) (length l))
     go (yes y) = absurd (h (none_word l y))
     go (no y) = lt_of_le-ne (place_within marked l) y
 
--- the word of eight places as the code joins it
 no_bytes : (n : ℕ) → word_of (take n []) ≡ 0
 unfolding word_of
 no_bytes zero = refl
 no_bytes (suc n) = refl
 
+-- the word of eight places as the code reads it
 low_byte : (m : List ℕ) (n a : ℕ) → word_of (take (suc n) (drop a m)) ≡ at m a + 256 * word_of (take n (drop (suc a) m))
 unfolding word_of
 low_byte [] n zero = rw (no_bytes n)
@@ -105,27 +95,22 @@ low_byte [] n (suc a) = rw (no_bytes n)
 low_byte (x ∷ m) n zero = refl
 low_byte (x ∷ m) n (suc a) = low_byte m n a
 
--- two bytes of it, and four
-two_bytes : (m : List ℕ) (n a : ℕ) → word_of (take (suc (suc n)) (drop a m)) ≡ word m a + 65536 * word_of (take n (drop (a + 2) m))
-unfolding word
-two_bytes m n a =
-    let one : suc a ≡ a + 1 = sym (add-one a) in
-    let two : suc (suc a) ≡ a + 2 = omega arith in
-    omega (arith, rw one at (low_byte m (suc n) a), rw (two, one) at (low_byte m n (suc a)))
+read_word : (l : List ℕ) → from_le_bytes w64 l ≡ word_of (take 8 l)
+unfolding word_of
+read_word l = omega (arith, low_byte l 7 0, low_byte l 6 1, low_byte l 5 2, low_byte l 4 3, low_byte l 3 4, low_byte l 2 5, low_byte l 1 6, low_byte l 0 7)
 
-four_bytes : (m : List ℕ) (n a : ℕ) → word_of (take (suc (suc (suc (suc n)))) (drop a m)) ≡ long m a + 4294967296 * word_of (take n (drop (a + 4) m))
-unfolding long
-four_bytes m n a =
-    let four : a + 2 + 2 ≡ a + 4 = omega arith in
-    omega (arith, two_bytes m (suc (suc n)) a, rw four at (two_bytes m n (a + 2)))
+group_at : (n g : ℕ) (m : List ℕ) → g < n → get_or (first_chunks 8 n m) g [] ≡ take 8 (drop (8 * g) m)
+group_at zero g m h = absurd (omega arith)
+group_at (suc n) zero m h = refl
+group_at (suc n) (suc g) m h =
+    let next : 8 * suc g ≡ 8 + 8 * g = omega arith in
+    rw (next, ← drop-drop (8 * g) 8 m) (group_at n g (drop 8 m) (omega arith))
 
-pub gathered_is : (m : List ℕ) (g low high r : ℕ) → low ≡ long m (8 * g) → high ≡ long m (8 * g + 4) → r ≡ low + 4294967296 * high → r ≡ word_at m g
-unfolding word_at word_of
-gathered_is m g low high r l h e = omega (arith, four_bytes m 4 (8 * g), four_bytes m 0 (8 * g + 4))
-
--- the place that a count of zeros tells
-pub place_fits : (g z count most : ℕ) → most ≡ min count 64 → 8 * g < most → z ≤ 64 → Fits w64 (8 * g + z / 8)
-place_fits g z count most e h l = record { fits = omega arith }
+pub gathered_is : (m : List ℕ) (g : ℕ) (gs : List (List ℕ)) (r : ℕ) → length m ≡ 64 → g < 8 → gs ≡ first_chunks 8 (length m / 8) m → r ≡ from_le_bytes w64 (get_or gs g []) → r ≡ word_at m g
+unfolding word_at
+gathered_is m g gs r k h e f =
+    let group : get_or gs g [] ≡ take 8 (drop (8 * g) m) = ap (λ l. get_or l g []) e ∙ group_at (length m / 8) g m (omega (arith, k)) in
+    f ∙ read_word (get_or gs g []) ∙ ap (λ l. word_of (take 8 l)) group ∙ ap word_of (take-take 8 8 (drop (8 * g) m) (omega arith))
 
 -- a search in the front of a list
 place_take : (q : ℕ → Bool) (n : ℕ) (l : List ℕ) → place_of q (take n l) ≡ min (place_of q l) n
@@ -139,6 +124,10 @@ place_take q (suc n) (x ∷ l) = go (q x) (place_take q n l)
     go false e = omega (arith, e)
 
 -- words of 64 bytes
+pub record Bytes (m : List ℕ) : Type 0 where
+  pub places : length m ≡ 64
+  pub small : Each (λ x. x < 256) m
+
 module _ (m : List ℕ) (k : Bytes m) where
   pub eight : (g : ℕ) → g < 8 → length (take 8 (drop (8 * g) m)) ≡ 8
   eight g h = length-take-le 8 (drop (8 * g) m) (simp length-drop (omega (arith, k.places)))
@@ -146,35 +135,37 @@ module _ (m : List ℕ) (k : Bytes m) where
   pub bytes : (g : ℕ) → Each (λ x. x < 256) (take 8 (drop (8 * g) m))
   bytes g = each_take (λ x. x < 256) 8 (drop (8 * g) m) (each_halves (λ x. x < 256) (take (8 * g) m) (drop (8 * g) m) (rw take-append-drop k.small)).1
 
--- The search among the first of them, word by word.
-abbrev pub Sought : List ℕ → ℕ → Type 0
-Sought m g = Bytes m → Searched marked (8 * g) m
+each_byte : (l : List ℕ) → ((i : ℕ) → at l i < 256) → Each (λ x. x < 256) l
+unfolding Each
+each_byte [] h = tt
+each_byte (x ∷ l) h = (h 0, each_byte l (λ i. h (suc i)))
 
-pub sought_start : (m : List ℕ) → Sought m 0
-sought_start m k = place_start marked m
+-- the search among the first of 64 bytes, word by word
+module _ (m : List ℕ) (count most : ℕ) (places : length m ≡ 64) (cut : most ≡ min count 64) where
+  pub sought_end : (g : ℕ) → div_ceil most 8 ≤ g → Searched marked (8 * g) m → most ≡ place_of marked (take count m)
+  sought_end g h b = omega (arith, cut, b.place, places, place_take marked count m, place_within marked m)
 
-module _ (m : List ℕ) (count most : ℕ) (cut : most ≡ min count 64) where
-  pub sought_end : (g : ℕ) → most ≤ 8 * g → Sought m g → Bytes m → most ≡ place_of marked (take count m)
-  sought_end g h b k = omega (arith, cut, place_take marked count m, (b k).place, place_within marked m, k.places)
+  module _ (g w : ℕ) (h : g < div_ceil most 8) (b : Searched marked (8 * g) m) (small : (i : ℕ) → at m i < 256) (e : w ≡ word_at m g) where
+    k : Bytes m
+    k = record { places = places; small = each_byte m small }
 
-  module _ (g w : ℕ) (h : 8 * g < most) (b : Sought m g) (e : w ≡ word_at m g) where
     -- a word that is zero is passed over
-    pub sought_turn : w ≡ 0 → Sought m (g + 1)
+    pub sought_turn : w ≡ 0 → Searched marked (8 * (g + 1)) m
     unfolding word_at
-    sought_turn z k =
+    sought_turn z =
         let eighth : length (take 8 (drop (8 * g) m)) ≡ 8 = eight m k g (omega (arith, cut)) in
         let next : 8 * (g + 1) ≡ 8 * g + 8 = omega arith in
-        rw next (group_turn marked 8 (8 * g) m (b k) eighth (word_none _ (sym e ∙ z) ∙ eighth))
+        rw next (group_turn marked 8 (8 * g) m b eighth (word_none _ (sym e ∙ z) ∙ eighth))
 
     -- else its lowest mark is the first
-    pub sought_hit : (r : ℕ) → (w ≡ 0 → ⊥) → r ≡ min (8 * g + lowest_mark w) most → Bytes m → r ≡ place_of marked (take count m)
+    pub sought_hit : (r : ℕ) → (w ≡ 0 → ⊥) → r ≡ min (8 * g + lowest_mark w) most → r ≡ place_of marked (take count m)
     unfolding word_at
-    sought_hit r z y k =
+    sought_hit r z y =
         let part : List ℕ = take 8 (drop (8 * g) m) in
         let eighth : length part ≡ 8 = eight m k g (omega (arith, cut)) in
         let some : place_of marked part < length part = word_some part (λ y. z (e ∙ y)) in
         let low : lowest_mark w ≡ place_of marked part = rw e (rw eighth at (lowest part (bytes m k g))) in
-        let hit : 8 * g + place_of marked part ≡ place_of marked m = group_hit marked 8 (8 * g) m (b k) some in
+        let hit : 8 * g + place_of marked part ≡ place_of marked m = group_hit marked 8 (8 * g) m b some in
         omega (arith, cut, y, low, hit, some, eighth, place_take marked count m)
 
 -- the marks of a core's tasks are 64 bytes, and the first that is set is that of the first pending task

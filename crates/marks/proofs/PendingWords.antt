@@ -10,7 +10,7 @@ use native.Mathlib.Omega.{arith}
 use lib.ListN.{length, take, drop, get_or-map, get_or-eq_default}
 use lib.Seq.{get_or-take, get_or-drop}
 use lib.Arith.{lt_of_le-ne, digits_div, digits_mod}
-use borrow.Author.Tests.{ltb-true, ltb-false}
+use borrow.Author.Tests.{ltb-true, ltb-false, lt-ltb}
 use Rattle.fit.specs.Lists.{at, place_of, Each}
 use Rattle.fit.proofs.Finds.{place_within, place_passes, place_before}
 use Rattle.fit.proofs.Lists.{at_padded}
@@ -18,7 +18,7 @@ use Rattle.timing.specs.declared.Task.{Task}
 use Rattle.timing.specs.Tasks.{pending}
 use Rattle.timing.specs.Serving.{no_task, nth}
 use Rattle.marks.specs.Words.{mark, marked, marks_of, word_of, word_at, byte_of, lowest_mark, LowestFirst}
-use Rattle.marks.proofs.Gathering.{mark_set, mark_marked, shifted, lowest, none_word, word_some, eight, bytes, marks_bytes}
+use Rattle.marks.proofs.Gathering.{mark_marked, shifted, lowest, none_word, word_some, eight, bytes, marks_bytes}
 
 -- bytes of a word
 byte_of_zero : (k : ℕ) → byte_of k 0 ≡ 0
@@ -36,6 +36,10 @@ byte_at (m ∷ l) h (suc k) = rw (shifted m (word_of l), digits_div (word_of l) 
 set_pends : (t : Task) → marked (mark t) ≡ true → 0 < t.left
 unfolding pending
 set_pends t e = ltb-true 0 t.left (sym (mark_marked t) ∙ e)
+
+pends_set : (t : Task) → 0 < t.left → mark t ≡ 1
+unfolding mark pending
+pends_set t h = rw (lt-ltb 0 t.left h)
 
 clear_idles : (t : Task) → marked (mark t) ≡ false → t.left ≡ 0
 unfolding pending
@@ -64,7 +68,7 @@ module _ (s : List Task) (few : length s ≤ 64) (g : ℕ) (h : g < 8) where
   -- so it is set exactly where the task there is one of the core's and pending
   pub byte_exactly : (k : ℕ) → k < 8 → (byte_of k (word_at (marks_of s) g) ≡ 1) ↔ ((8 * g + k < length s) × (0 < (nth s (8 * g + k)).left))
   unfolding marked
-  byte_exactly k l = (λ e. (inside (dec_lt (8 * g + k) (length s)) (pends e), pends e), λ p. byte_is k l ∙ sym (mark_set _ p.1))
+  byte_exactly k l = (λ e. (inside (dec_lt (8 * g + k) (length s)) (pends e), pends e), λ p. byte_is k l ∙ pends_set _ p.1)
     where
       pends : byte_of k (word_at (marks_of s) g) ≡ 1 → 0 < (nth s (8 * g + k)).left
       pends e = set_pends _ (ap marked (sym (byte_is k l) ∙ e))

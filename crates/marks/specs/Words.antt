@@ -1,7 +1,7 @@
 -- The pending marks of a core's tasks, eight to a word, by which a tick looks for the first pending task (docs/SHEET.md, section 6).
-use Rattle.std.specs.Prelude.{ℕ, zero, suc, ◌+◌, ◌*◌, ◌/◌, ◌%◌, ◌<◌, ◌≡◌, Bool, cond, List, [], ◌∷◌, map, length, take, drop, ltb}
+use Rattle.std.specs.Prelude.{ℕ, zero, suc, ◌+◌, ◌*◌, ◌/◌, ◌%◌, ◌<◌, ◌≡◌, Bool, cond, List, [], ◌∷◌, map, take, drop, ltb}
 use Rattle.std.specs.Int.Count.{count_trailing_zeros}
-use Rattle.fit.specs.Lists.{padded, Each}
+use Rattle.fit.specs.Lists.{padded}
 use Rattle.timing.specs.declared.Task.{Task}
 use Rattle.timing.specs.Tasks.{pending}
 use Rattle.timing.specs.Serving.{nth}
@@ -17,11 +17,6 @@ marked m = ltb 0 m
 -- the marks of a core's tasks, a byte each, in 64 places; past the tasks there is none
 unfoldable pub marks_of : List Task → List ℕ
 marks_of s = padded (map mark s)
-
--- 64 bytes, as every array of so many is; of one that is lent the language tells neither its length nor that its elements are bytes
-pub record Bytes (m : List ℕ) : Type 0 where
-  pub places : length m ≡ 64
-  pub small : Each (λ x. x < 256) m
 
 -- bytes as one number, the first of them lowest
 unfoldable pub word_of : List ℕ → ℕ

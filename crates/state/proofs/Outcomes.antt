@@ -1,35 +1,43 @@
 -- Each way out of release, finish and tick, as the code returns it.
 -- Assumes nothing.
 use Prim.Native.Nat.{ℕ, zero, suc, ◌≤◌, ◌<◌, ◌-◌, ◌*◌}
-use mathlib.Core.Path.{◌≡◌, refl, sym, ap, ◌∙◌}
+use mathlib.Core.Path.{◌≡◌, refl, sym, ap, subst, ◌∙◌}
 use mathlib.Core.Bool.{Bool, true, false, cond}
 use mathlib.Core.List.{List, [], ◌∷◌, ◌++◌, map}
 use native.Mathlib.Omega.{arith}
 use lib.ListN.{length, take, drop, set, take-append-drop, length-map, get_or-append, get_or-map}
 use lib.Seq.{get_or-take, length-take-le, take-set-lt, drop-set-lt, set-get_or, set-append_left}
 use lib.Dec.{ltb, eqb}
-use borrow.Author.Tests.{lt-ltb, le-ltb, ltb-true, ltb-false}
 use mir.Val.{Fits}
 use mir.Syntax.{w64}
+use borrow.Author.Tests.{lt-ltb, le-ltb, ltb-true, ltb-false}
+use Rattle.std.specs.Prelude.{Some, None, Result, Ok, Err}
+use Rattle.std.specs.Option.{ok_or}
 use Rattle.sheet.specs.declared.Refusal.TheVariants.{Foreign, Unlisted, Early, Late, Quiet}
-use Rattle.sheet.specs.declared.Refusal.{Refusal}
+use Rattle.sheet.specs.declared.Rejection.{Rejection}
 use Rattle.sheet.specs.Refusals.{number_of}
 use Rattle.fit.specs.Lists.{place_of}
+use Rattle.fit.proofs.Words.{place_position}
 use Rattle.timing.specs.declared.Task.{Task}
 use Rattle.timing.specs.Calls.{Call, Answer, of_first, modify, answer_by, next_by, Stroke, no_stroke, stroke_of, turn, stroke_ticks, stroke_ticked, stroke_finished, next_stroke, answer, next, release, finish, tick, idle, accepted, served, refused, release_answer, finish_answer, tick_answer}
 use Rattle.timing.specs.Serving.{no_task, nth}
 use Rattle.timing.specs.Tasks.{pending, early, named, with_job, released, finished, used, older}
-use Rattle.state.specs.declared.Core.{Core}
-use Rattle.state.specs.declared.Spot.{Spot}
-use Rattle.state.specs.declared.Spot.TheVariants.{At, Refused as Missing}
-use Rattle.state.specs.declared.Step.{Step}
-use Rattle.state.specs.declared.Answer.TheVariants.{Accepted, Served, Idle}
 use Rattle.timing.proofs.Steps.{turn_pends}
+use Rattle.state.specs.declared.Core.{Core}
+use Rattle.state.specs.declared.Step.{Step}
+use Rattle.state.specs.declared.Reply.TheVariants.{Served, Idle}
 use Rattle.state.specs.State.{tasks_of, stroke_in, state_in, with_state, foreign}
 use Rattle.state.specs.Operations.{refusal, ask, step, Operation, answer_of}
 use Rattle.state.specs.Steps.{spot, changed, with_stroke, acceptance}
 use Rattle.state.proofs.Foreign.{foreign_form}
-use Rattle.state.proofs.Aging.{state_is, aged_state}
+
+-- a state is its fields
+pub state_is : (s : Core) (n : ℕ) (l : List Task) (j r : ℕ) → s.count ≡ n → s.tasks ≡ l → s.stroke_task ≡ j → s.stroke_left ≡ r → s ≡ record { count = n; tasks = l; stroke_task = j; stroke_left = r }
+state_is s n l j r e f g h = λ i. record { count = e i; tasks = f i; stroke_task = g i; stroke_left = h i }
+
+-- a state with every task one tick older
+abbrev pub aged_state : Core → Core
+aged_state s = with_state s (record { tasks = map older (tasks_of s); stroke = stroke_in s })
 
 -- the first task that passes, at its place: what it answers, and the list in which it is changed
 record Found (q : Task → Bool) (s : List Task) (i : ℕ) : Type 1 where
@@ -82,34 +90,52 @@ one_changed s i t k h =
     let back : drop s.count (set s.tasks i t) ≡ drop s.count s.tasks = drop-set-lt s.count s.tasks i t h in
     state_is _ s.count _ _ _ refl (rw (front, back) at (take-append-drop s.count (set s.tasks i t))) refl refl
 
--- the ticks left of a stroke of a task, and the ticks of a stroke of a task that is older
-left_of : (j r : ℕ) → (stroke_of j r).left ≡ r
-left_of j zero = refl
-left_of j (suc r) = refl
-
+-- the ticks of a stroke of a task that is older
 ticks_older : (r : ℕ) (t : Task) → stroke_ticks r (older t) ≡ stroke_ticks r t
 unfolding older with_job
 ticks_older zero t = refl
 ticks_older (suc r) t = refl
 
--- an accepted call
-pub accepts : (s v : Core) (i : ℕ) (t : Task) → v ≡ changed s i t → record { answer = Accepted; core = v } ≡ acceptance s i t
-accepts s v i t h = ap (λ (x : Core). record { answer = Accepted; core = x }) h
+-- the stroke after the tick of a task, as the code writes it
+pub number_none : (j r : ℕ) → r ≡ 0 → 0 ≡ (stroke_of j r).task
+number_none j zero h = refl
+number_none j (suc r) h = absurd (omega (arith, h))
 
--- what a tick gives where the form is not looked at: what timing's state answers and hands back
-pub record Untested (s : Core) (r : Step) : Type 0 where
-  pub answer : answer_of r.answer ≡ answer tick (state_in s)
-  pub core : r.core ≡ with_state s (next tick (state_in s))
+pub number_some : (j r : ℕ) → (r ≡ 0 → ⊥) → j ≡ (stroke_of j r).task
+number_some j zero h = absurd (h refl)
+number_some j (suc r) h = refl
+
+left_of : (j r : ℕ) → r ≡ (stroke_of j r).left
+left_of j zero = refl
+left_of j (suc r) = refl
+
+pub stroke_written : (s : Core) (i : ℕ) (t : Task) (r n : ℕ) → r ≡ stroke_ticks s.stroke_left t - 1 → n ≡ (stroke_of t.number r).task → record { count = s.count; tasks = set s.tasks i (used t); stroke_task = n; stroke_left = r } ≡ with_stroke (changed s i (used t)) (stroke_ticked (stroke_in s) t)
+stroke_written s i t r n e h = ap (λ n. record { count = s.count; tasks = set s.tasks i (used t); stroke_task = n; stroke_left = r }) h ∙ ap (λ l. record { count = s.count; tasks = set s.tasks i (used t); stroke_task = (stroke_of t.number r).task; stroke_left = l }) (left_of t.number r) ∙ ap (λ r. with_stroke (changed s i (used t)) (stroke_of t.number r)) e
 
 -- 21
-pub op_foreign : (c : Call) (s : Core) (r : Step) → true ≡ foreign s → r ≡ refusal s Foreign 0 → Operation c s r
+pub op_foreign : (c : Call) (s : Core) (w : Rejection ℕ) (r : Step) → true ≡ foreign s → w ≡ record { word = Foreign; place = 0 } → r ≡ refusal s w → Operation c s r
 unfolding ask step
-op_foreign c s r e y = record { answer = rw (y, ← e); core = rw (y, ← e) }
+op_foreign c s w r e x y = record { answer = rw (y, x, ← e); core = rw (y, ← e) }
 
--- a state of at most 64 tasks, whatever its fields hold
-module _ (s : Core) (most : s.count ≤ 64) (room : length s.tasks ≡ 64) where
+pub count_max : (s : Core) (b : Bool) → b ≡ foreign s → b ≡ false → s.count ≤ 64
+count_max s b e x = (foreign_form s (sym e ∙ x)).count
+
+-- a state in form
+module _ (s : Core) (x : foreign s ≡ false) (room : length s.tasks ≡ 64) where
+  few : s.count ≤ 64
+  few = (foreign_form s x).count
+
   many : length (tasks_of s) ≡ s.count
-  many = length-take-le s.count s.tasks (omega arith)
+  many = length-take-le s.count s.tasks (omega (arith, few))
+
+  -- what it answers and hands back
+  native_ask : (c : Call) → ask c s ≡ answer c (state_in s)
+  unfolding ask
+  native_ask c = rw x
+
+  native_step : (c : Call) → step c s ≡ with_state s (next c (state_in s))
+  unfolding step
+  native_step c = rw x
 
   module _ (q : Task → Bool) (i : ℕ) (at : i ≡ place_of q (tasks_of s)) where
     hit : i < s.count → Found q (tasks_of s) i
@@ -121,201 +147,167 @@ module _ (s : Core) (most : s.count ≤ 64) (room : length s.tasks ≡ 64) where
     task_at : i < s.count → nth (tasks_of s) i ≡ nth s.tasks i
     task_at h = get_or-take s.count s.tasks i no_task h
 
+    -- a call that changes the first task which passes, and the stroke
+    operation : (c : Call) (f : Task → Answer) (d : Answer) (g : Task → Task) (k : Stroke) (r : Step) → answer c (state_in s) ≡ of_first q f d (tasks_of s) → next c (state_in s) ≡ record { tasks = modify q g (tasks_of s); stroke = k } → i < s.count → answer_of r.answer ≡ f (nth s.tasks i) → r.core ≡ with_stroke (changed s i (g (nth s.tasks i))) k → Operation c s r
+    operation c f d g k r p n h y z = record {
+      answer = y ∙ sym (native_ask c ∙ p ∙ (hit h).answers f d ∙ ap f (task_at h));
+      core = z ∙ sym (native_step c ∙ ap (with_state s) (n ∙ ap (λ l. record { tasks = l; stroke = k }) ((hit h).changes g ∙ ap (λ t. set (tasks_of s) i (g t)) (task_at h))) ∙ one_changed s i _ k h);
+    }
+
+    -- a refusal of that task: task and stroke stay as they are
+    refusal_at : (c : Call) (f : Task → Answer) (d : Answer) (g : Task → Task) (k : Stroke) (w : Rejection ℕ) → answer c (state_in s) ≡ of_first q f d (tasks_of s) → next c (state_in s) ≡ record { tasks = modify q g (tasks_of s); stroke = k } → (Found q (tasks_of s) i → k ≡ stroke_in s) → i < s.count → f (nth s.tasks i) ≡ refused (number_of w.word) w.place → g (nth s.tasks i) ≡ nth s.tasks i → Operation c s (refusal s w)
+    refusal_at c f d g k w p n t h y z =
+        let same = t (hit h) in
+        operation c f d g k (refusal s w) p n h (sym y) (state_is s s.count _ _ _ refl (sym (ap (set s.tasks i) z ∙ set-get_or s.tasks i no_task)) (sym (ap (λ u. u.task) same)) (sym (ap (λ u. u.left) same)))
+
+    -- 17: no task passes
+    unlisted : (c : Call) (f : Task → Answer) (g : Task → Task) (k : Stroke) → answer c (state_in s) ≡ of_first q f (refused 17 0) (tasks_of s) → next c (state_in s) ≡ record { tasks = modify q g (tasks_of s); stroke = k } → (Lacking q (tasks_of s) → k ≡ stroke_in s) → s.count ≤ i → Operation c s (refusal s (record { word = Unlisted; place = 0 }))
+    unlisted c f g k p n t h =
+        let m = miss h in
+        record { answer = sym (native_ask c ∙ p ∙ m.answers f (refused 17 0)); core = sym (native_step c ∙ ap (with_state s) (n ∙ ap (λ l. record { tasks = l; stroke = k }) (m.changes g) ∙ ap (λ u. record { tasks = tasks_of s; stroke = u }) (t m)) ∙ same_state s) }
+
   abbrev who : Task → Bool
   who = turn (stroke_in s)
 
-  module _ (i : ℕ) (at : i ≡ place_of who (tasks_of s)) where
-    -- an idle tick
-    pub tick_idles : (r : Core) → s.count ≤ i → r ≡ aged_state s → Untested s (record { answer = Idle; core = r })
+  -- a tick, once every task is older
+  module _ (i : ℕ) (at : i ≡ place_of who (tasks_of s)) (v : Core) (k : v ≡ aged_state s) where
+    -- it is idle
+    pub tick_idles : s.count ≤ i → Operation tick s (record { answer = Ok Idle; core = v })
     unfolding answer next answer_by next_by next_stroke
-    tick_idles r h k =
+    tick_idles h =
         let m = miss who i at h in
-        record { answer = sym (m.answers tick_answer idle); core = k ∙ sym (ap (λ l. with_state s (record { tasks = map older l; stroke = next_stroke tick (state_in s) })) (m.changes used) ∙ ap (λ (v : Stroke). with_state s (record { tasks = map older (tasks_of s); stroke = v })) (m.answers (stroke_ticked (stroke_in s)) (stroke_in s))) }
+        record { answer = sym (native_ask tick ∙ m.answers tick_answer idle); core = k ∙ sym (native_step tick ∙ ap (λ l. with_state s (record { tasks = map older l; stroke = next_stroke tick (state_in s) })) (m.changes used) ∙ ap (λ (v : Stroke). with_state s (record { tasks = map older (tasks_of s); stroke = v })) (m.answers (stroke_ticked (stroke_in s)) (stroke_in s))) }
 
+    -- it goes to the first task that may have it
     module _ (h : i < s.count) where
-      -- a tick that goes to the first task that may have it, once every task is older
-      module _ (v : Core) (k : v ≡ aged_state s) where
-        abbrev old : Task
-        old = nth (tasks_of s) i
+      abbrev old : Task
+      old = nth (tasks_of s) i
 
-        aged_task : nth v.tasks i ≡ older old
-        unfolding with_state older with_job
-        aged_task = ap (λ w. nth w.tasks i) k ∙ get_or-append (map older (tasks_of s)) (drop s.count s.tasks) no_task i (simp length-map (omega (arith, many))) ∙ get_or-map older (tasks_of s) i no_task
+      aged_task : nth v.tasks i ≡ older old
+      unfolding with_state older with_job
+      aged_task = ap (λ w. nth w.tasks i) k ∙ get_or-append (map older (tasks_of s)) (drop s.count s.tasks) no_task i (simp length-map (omega (arith, many))) ∙ get_or-map older (tasks_of s) i no_task
 
-        pub aged_left : 1 ≤ (nth v.tasks i).left
-        unfolding older with_job
-        aged_left = rw aged_task (turn_pends (stroke_in s) old (hit who i at h).passes)
+      pub aged_left : 1 ≤ (nth v.tasks i).left
+      unfolding older with_job
+      aged_left = rw aged_task (turn_pends (stroke_in s) old (hit who i at h).passes)
 
-        pub tick_serves : (u : Task) (rest number : ℕ) → u ≡ with_job (nth v.tasks i) (nth v.tasks i).age ((nth v.tasks i).left - 1) → rest ≡ stroke_ticks s.stroke_left (nth v.tasks i) - 1 → number ≡ (stroke_of (nth v.tasks i).number rest).task → Untested s (record { answer = Served (nth v.tasks i).number; core = record { count = v.count; tasks = set v.tasks i u; stroke_task = number; stroke_left = rest } })
-        unfolding answer next answer_by next_by next_stroke used older with_job with_state
-        tick_serves u rest number e x y =
-            let m = hit who i at h in
-            let o : u ≡ used (older old) = e ∙ ap used aged_task in
-            let front : set v.tasks i u ≡ map older (set (tasks_of s) i (used old)) ++ drop s.count s.tasks = ap (λ w. set w.tasks i u) k ∙ set-append_left (map older (tasks_of s)) (drop s.count s.tasks) i u (simp length-map (omega (arith, many))) ∙ ap (λ l. l ++ drop s.count s.tasks) (ap (set (map older (tasks_of s)) i) o ∙ sym (map_set older (tasks_of s) i (used old))) in
-            let left : rest ≡ stroke_ticks s.stroke_left old - 1 = x ∙ ap (λ t. stroke_ticks s.stroke_left t - 1) aged_task ∙ ap (λ n. n - 1) (ticks_older s.stroke_left old) in
-            let own : number ≡ (stroke_ticked (stroke_in s) old).task = y ∙ ap (λ t. (stroke_of t.number rest).task) aged_task ∙ ap (λ n. (stroke_of old.number n).task) left in
-            record {
-              answer = ap (λ t. served t.number) aged_task ∙ sym (m.answers tick_answer idle);
-              core = state_is _ s.count _ _ _ (ap (λ w. w.count) k) front (own ∙ sym (ap (λ (w : Stroke). w.task) (m.answers (stroke_ticked (stroke_in s)) (stroke_in s)))) (left ∙ sym (left_of old.number _) ∙ sym (ap (λ (w : Stroke). w.left) (m.answers (stroke_ticked (stroke_in s)) (stroke_in s)))) ∙ sym (ap (λ l. with_state s (record { tasks = map older l; stroke = next_stroke tick (state_in s) })) (m.changes used));
-            }
+      pub tick_serves : (n : ℕ) (w : Core) → n ≡ (nth v.tasks i).number → w ≡ with_stroke (changed v i (used (nth v.tasks i))) (stroke_ticked (stroke_in v) (nth v.tasks i)) → Operation tick s (record { answer = Ok (Served n); core = w })
+      unfolding answer next answer_by next_by next_stroke used older with_job with_state
+      tick_serves n w y z =
+          let m = hit who i at h in
+          let front : set v.tasks i (used (nth v.tasks i)) ≡ map older (modify who used (tasks_of s)) ++ drop s.count s.tasks = ap (λ t. set v.tasks i (used t)) aged_task ∙ ap (λ u. set u.tasks i (used (older old))) k ∙ set-append_left (map older (tasks_of s)) (drop s.count s.tasks) i (used (older old)) (simp length-map (omega (arith, many))) ∙ ap (λ l. l ++ drop s.count s.tasks) (sym (map_set older (tasks_of s) i (used old)) ∙ ap (map older) (sym (m.changes used))) in
+          let own : stroke_ticked (stroke_in v) (nth v.tasks i) ≡ next_stroke tick (state_in s) = ap (stroke_ticked (stroke_in v)) aged_task ∙ ap (λ u. stroke_ticked (stroke_in u) (older old)) k ∙ ap (λ n. stroke_of old.number (n - 1)) (ticks_older s.stroke_left old) ∙ sym (m.answers (stroke_ticked (stroke_in s)) (stroke_in s)) in
+          record {
+            answer = ap served (y ∙ ap (λ t. t.number) aged_task) ∙ sym (native_ask tick ∙ m.answers tick_answer idle);
+            core = z ∙ state_is _ s.count _ _ _ (ap (λ u. u.count) k) front (ap (λ (u : Stroke). u.task) own) (ap (λ (u : Stroke). u.left) own) ∙ sym (native_step tick);
+          }
 
-module _ (s : Core) (b : Bool) (e : b ≡ foreign s) (x : b ≡ false) where
-  -- what a state in form answers and hands back
-  native_ask : (c : Call) → ask c s ≡ answer c (state_in s)
-  unfolding ask
-  native_ask c = rw (← e, x)
+-- the place of a named task, as the code looks for it
+module _ (s : Core) (j : ℕ) (room : length s.tasks ≡ 64) where
+  abbrev n : ℕ
+  n = place_of (named j) (tasks_of s)
 
-  native_step : (c : Call) → step c s ≡ with_state s (next c (state_in s))
-  unfolding step
-  native_step c = rw (← e, x)
+  -- 21, else 17 or where it stands
+  data Looked : Result ℕ (Rejection ℕ) → Type 0 where
+    foreign_state : foreign s ≡ true → Looked (Err (record { word = Foreign; place = 0 }))
+    not_there : foreign s ≡ false → s.count ≤ n → Looked (Err (record { word = Unlisted; place = 0 }))
+    there : foreign s ≡ false → n < s.count → Looked (Ok n)
 
-  pub count_max : s.count ≤ 64
-  count_max = (foreign_form s (sym e ∙ x)).count
-
-  place_room : {i : ℕ} → i < s.count → i < 64
-  place_room h = omega (arith, count_max)
-
-  -- the offset in bytes of a task of 10 bytes fits in 64 bits
-  offset_fits : {i : ℕ} → i < s.count → Fits w64 (i * 10)
-  offset_fits h = omega (arith, count_max)
-
-  -- what timing's state gives is what a tick of a state in form gives
-  pub tick_in_form : (r : Step) → Untested s r → Operation tick s r
-  tick_in_form r u = record { answer = u.answer ∙ sym (native_ask tick); core = u.core ∙ sym (native_step tick) }
-
-  module _ (room : length s.tasks ≡ 64) where
-    module _ (q : Task → Bool) (i : ℕ) (at : i ≡ place_of q (tasks_of s)) where
-      -- a call that changes the first task which passes, and the stroke
-      operation : (c : Call) (f : Task → Answer) (d : Answer) (g : Task → Task) (k : Stroke) (r : Step) → answer c (state_in s) ≡ of_first q f d (tasks_of s) → next c (state_in s) ≡ record { tasks = modify q g (tasks_of s); stroke = k } → i < s.count → answer_of r.answer ≡ f (nth s.tasks i) → r.core ≡ with_stroke (changed s i (g (nth s.tasks i))) k → Operation c s r
-      operation c f d g k r p n h y z = record {
-        answer = y ∙ sym (native_ask c ∙ p ∙ (hit s count_max room q i at h).answers f d ∙ ap f (task_at s count_max room q i at h));
-        core = z ∙ sym (native_step c ∙ ap (with_state s) (n ∙ ap (λ l. record { tasks = l; stroke = k }) ((hit s count_max room q i at h).changes g ∙ ap (λ t. set (tasks_of s) i (g t)) (task_at s count_max room q i at h))) ∙ one_changed s i _ k h);
-      }
-
-      -- a refusal of that task: task and stroke stay as they are
-      refusal_at : (c : Call) (f : Task → Answer) (d : Answer) (g : Task → Task) (k : Stroke) (w : Refusal) (r : Step) → answer c (state_in s) ≡ of_first q f d (tasks_of s) → next c (state_in s) ≡ record { tasks = modify q g (tasks_of s); stroke = k } → (Found q (tasks_of s) i → k ≡ stroke_in s) → i < s.count → f (nth s.tasks i) ≡ refused (number_of w) (nth s.tasks i).number → g (nth s.tasks i) ≡ nth s.tasks i → r ≡ refusal s w (nth s.tasks i).number → Operation c s r
-      refusal_at c f d g k w r p n t h y z v =
-          let same = t (hit s count_max room q i at h) in
-          operation c f d g k r p n h (ap (λ u. answer_of u.answer) v ∙ sym y) (ap (λ u. u.core) v ∙ state_is s s.count _ _ _ refl (sym (ap (set s.tasks i) z ∙ set-get_or s.tasks i no_task)) (sym (ap (λ u. u.task) same)) (sym (ap (λ u. u.left) same)))
-
-      -- 17: no task passes
-      unlisted : (c : Call) (f : Task → Answer) (g : Task → Task) (k : Stroke) (r : Step) → answer c (state_in s) ≡ of_first q f (refused 17 0) (tasks_of s) → next c (state_in s) ≡ record { tasks = modify q g (tasks_of s); stroke = k } → (Lacking q (tasks_of s) → k ≡ stroke_in s) → s.count ≤ i → r ≡ refusal s Unlisted 0 → Operation c s r
-      unlisted c f g k r p n t h v =
-          let m = miss s count_max room q i at h in
-          record { answer = ap (λ u. answer_of u.answer) v ∙ sym (native_ask c ∙ p ∙ m.answers f (refused 17 0)); core = ap (λ u. u.core) v ∙ sym (native_step c ∙ ap (with_state s) (n ∙ ap (λ l. record { tasks = l; stroke = k }) (m.changes g) ∙ ap (λ u. record { tasks = tasks_of s; stroke = u }) (t m)) ∙ same_state s) }
-
--- the place of a named task, as it is looked for
-module _ (s : Core) (j : ℕ) (b : Bool) (e : b ≡ foreign s) where
-  pub spot_foreign : b ≡ true → Missing Foreign ≡ spot s j
+  looked : Looked (spot s j)
   unfolding spot
-  spot_foreign x = rw (← e, x)
-
-  module _ (x : b ≡ false) (i : ℕ) (at : i ≡ place_of (named j) (tasks_of s)) where
-    pub spot_unlisted : s.count ≤ i → Missing Unlisted ≡ spot s j
-    unfolding spot
-    spot_unlisted h = rw (← e, x, ← at, le-ltb i s.count h)
-
-    pub spot_at : i < s.count → At i ≡ spot s j
-    unfolding spot
-    spot_at h = rw (← e, x, ← at, lt-ltb i s.count h)
-
--- a call that names a task, which is not there or stands at a place
-module _ (s : Core) (j : ℕ) (p : Spot) (q : p ≡ spot s j) (room : length s.tasks ≡ 64) where
-  -- 21 and 17
-  absent : (c : Call) (f : Task → Answer) (g : Task → Task) (v : Stroke) (w : Refusal) (r : Step) → answer c (state_in s) ≡ of_first (named j) f (refused 17 0) (tasks_of s) → next c (state_in s) ≡ record { tasks = modify (named j) g (tasks_of s); stroke = v } → (Lacking (named j) (tasks_of s) → v ≡ stroke_in s) → p ≡ Missing w → r ≡ refusal s w 0 → Operation c s r
-  unfolding spot
-  absent c f g v w r a n t h k = by (foreign s) refl (sym h ∙ q)
+  looked = rw (← place_position (named j) (tasks_of s)) (by (foreign s) refl)
     where
-      i : ℕ
-      i = place_of (named j) (tasks_of s)
+      inside : foreign s ≡ false → (b : Bool) → ltb n (length (tasks_of s)) ≡ b → Looked (ok_or (cond b (Some n) None) (record { word = Unlisted; place = 0 }))
+      inside x true e = there x (omega (arith, ltb-true n _ e, many s x room))
+      inside x false e = not_there x (omega (arith, ltb-false n _ e, many s x room))
 
-      inside : foreign s ≡ false → (b : Bool) → ltb i s.count ≡ b → Missing w ≡ cond b (At i) (Missing Unlisted) → Operation c s r
-      inside x true e z = absurd (let never : ◌≡◌ {A = ℕ} 0 1 = cc in omega arith)
-      inside x false e z =
-          let o : w ≡ Unlisted = cc in
-          unlisted s (foreign s) refl x room (named j) i refl c f g v r a n t (ltb-false i s.count e) (k ∙ ap (λ u. refusal s u 0) o)
+      by : (b : Bool) → foreign s ≡ b → Looked (cond b (Err (record { word = Foreign; place = 0 })) (ok_or (cond (ltb n (length (tasks_of s))) (Some n) None) (record { word = Unlisted; place = 0 })))
+      by true e = foreign_state e
+      by false e = inside e (ltb n (length (tasks_of s))) refl
 
-      by : (b : Bool) → foreign s ≡ b → Missing w ≡ cond b (Missing Foreign) (cond (ltb i s.count) (At i) (Missing Unlisted)) → Operation c s r
-      by true e z =
-          let o : w ≡ Foreign = cc in
-          op_foreign c s r (sym e) (k ∙ ap (λ u. refusal s u 0) o)
-      by false e z = inside e (ltb i s.count) refl z
-
-  pub release_absent : (w : Refusal) (r : Step) → p ≡ Missing w → r ≡ refusal s w 0 → Operation (release j) s r
-  unfolding answer next answer_by next_by next_stroke
-  release_absent w r h k = absent (release j) release_answer released (stroke_in s) w r refl refl (λ m. refl) h k
-
-  pub finish_absent : (w : Refusal) (r : Step) → p ≡ Missing w → r ≡ refusal s w 0 → Operation (finish j) s r
-  unfolding answer next answer_by next_by next_stroke
-  finish_absent w r h k = absent (finish j) finish_answer finished (next_stroke (finish j) (state_in s)) w r refl refl (λ m. m.answers (stroke_finished (stroke_in s)) (stroke_in s)) h k
-
-  module _ (i : ℕ) (h : p ≡ At i) where
-    there : (foreign s ≡ false) × (i ≡ place_of (named j) (tasks_of s)) × (i < s.count)
-    unfolding spot
-    there = by (foreign s) refl (sym h ∙ q)
+  -- the answer of the search, as the code goes on from it
+  module _ (p : Result ℕ (Rejection ℕ)) (q : p ≡ spot s j) where
+    absent : (c : Call) (f : Task → Answer) (g : Task → Task) (v : Stroke) (w : Rejection ℕ) → answer c (state_in s) ≡ of_first (named j) f (refused 17 0) (tasks_of s) → next c (state_in s) ≡ record { tasks = modify (named j) g (tasks_of s); stroke = v } → (Lacking (named j) (tasks_of s) → v ≡ stroke_in s) → p ≡ Err w → Operation c s (refusal s w)
+    absent c f g v w a k t h = go (rw q looked) h
       where
-        n : ℕ
-        n = place_of (named j) (tasks_of s)
+        go : {o : Result ℕ (Rejection ℕ)} → Looked o → o ≡ Err w → Operation c s (refusal s w)
+        go (foreign_state x) e =
+            let same : record { word = Foreign; place = 0 } ≡ w = cc in
+            subst (λ w. Operation c s (refusal s w)) same (op_foreign c s _ _ (sym x) refl refl)
+        go (not_there x m) e =
+            let same : record { word = Unlisted; place = 0 } ≡ w = cc in
+            subst (λ w. Operation c s (refusal s w)) same (unlisted s x room (named j) n refl c f g v a k t m)
+        go (there x m) e = absurd (let never : ◌≡◌ {A = ℕ} 0 1 = cc in omega arith)
 
-        inside : foreign s ≡ false → (b : Bool) → ltb n s.count ≡ b → At i ≡ cond b (At n) (Missing Unlisted) → (foreign s ≡ false) × (i ≡ n) × (i < s.count)
-        inside x true e z =
-            let o : i ≡ n = cc in
-            (x, o, rw o (ltb-true n s.count e))
-        inside x false e z = absurd (let never : ◌≡◌ {A = ℕ} 0 1 = cc in omega arith)
+    pub release_absent : (w : Rejection ℕ) → p ≡ Err w → Operation (release j) s (refusal s w)
+    unfolding answer next answer_by next_by next_stroke
+    release_absent w h = absent (release j) release_answer released (stroke_in s) w refl refl (λ m. refl) h
 
-        by : (b : Bool) → foreign s ≡ b → At i ≡ cond b (Missing Foreign) (cond (ltb n s.count) (At n) (Missing Unlisted)) → (foreign s ≡ false) × (i ≡ n) × (i < s.count)
-        by true e z = absurd (let never : ◌≡◌ {A = ℕ} 0 1 = cc in omega arith)
-        by false e z = inside e (ltb n s.count) refl z
+    pub finish_absent : (w : Rejection ℕ) → p ≡ Err w → Operation (finish j) s (refusal s w)
+    unfolding answer next answer_by next_by next_stroke
+    finish_absent w h = absent (finish j) finish_answer finished (next_stroke (finish j) (state_in s)) w refl refl (λ m. m.answers (stroke_finished (stroke_in s)) (stroke_in s)) h
 
-    pub spot_room : i < 64
-    spot_room = place_room s (foreign s) refl there.0 there.2
+    module _ (i : ℕ) (h : p ≡ Ok i) where
+      found_there : (foreign s ≡ false) × (i ≡ n) × (i < s.count)
+      found_there = go (rw q looked) h
+        where
+          go : {o : Result ℕ (Rejection ℕ)} → Looked o → o ≡ Ok i → (foreign s ≡ false) × (i ≡ n) × (i < s.count)
+          go (foreign_state x) e = absurd (let never : ◌≡◌ {A = ℕ} 0 1 = cc in omega arith)
+          go (not_there x m) e = absurd (let never : ◌≡◌ {A = ℕ} 0 1 = cc in omega arith)
+          go (there x m) e =
+              let same : i ≡ n = cc in
+              (x, same, omega (arith, same, m))
 
-    pub spot_fits : Fits w64 (i * 10)
-    spot_fits = offset_fits s (foreign s) refl there.0 there.2
+      pub spot_room : i < 64
+      spot_room = omega (arith, found_there.2, few s found_there.0 room)
 
-    -- a refusal of the task there, and a change of it
-    refused_there : (c : Call) (f : Task → Answer) (g : Task → Task) (v : Stroke) (w : Refusal) (r : Step) → answer c (state_in s) ≡ of_first (named j) f (refused 17 0) (tasks_of s) → next c (state_in s) ≡ record { tasks = modify (named j) g (tasks_of s); stroke = v } → (Found (named j) (tasks_of s) i → v ≡ stroke_in s) → f (nth s.tasks i) ≡ refused (number_of w) (nth s.tasks i).number → g (nth s.tasks i) ≡ nth s.tasks i → r ≡ refusal s w (nth s.tasks i).number → Operation c s r
-    refused_there c f g v w r a n t y z k = refusal_at s (foreign s) refl there.0 room (named j) i there.1 c f (refused 17 0) g v w r a n t there.2 y z k
+      -- the offset in bytes of a task of 10 bytes
+      pub spot_fits : Fits w64 (i * 10)
+      spot_fits = record { fits = omega (arith, spot_room) }
 
-    changed_there : (c : Call) (f : Task → Answer) (g : Task → Task) (v : Stroke) (r : Step) (z : Core) (u : Task) → answer c (state_in s) ≡ of_first (named j) f (refused 17 0) (tasks_of s) → next c (state_in s) ≡ record { tasks = modify (named j) g (tasks_of s); stroke = v } → accepted ≡ f (nth s.tasks i) → u ≡ g (nth s.tasks i) → z ≡ with_stroke s v → r ≡ acceptance z i u → Operation c s r
-    changed_there c f g v r z u a n y e x k = operation s (foreign s) refl there.0 room (named j) i there.1 c f (refused 17 0) g v r a n there.2 (ap (λ w. answer_of w.answer) k ∙ y) (ap (λ w. w.core) k ∙ ap (λ w. changed w i u) x ∙ ap (λ t. with_stroke (changed s i t) v) e)
+      -- a refusal of the task there, and a change of it
+      refused_there : (c : Call) (f : Task → Answer) (g : Task → Task) (v : Stroke) (w r : Rejection ℕ) → answer c (state_in s) ≡ of_first (named j) f (refused 17 0) (tasks_of s) → next c (state_in s) ≡ record { tasks = modify (named j) g (tasks_of s); stroke = v } → (Found (named j) (tasks_of s) i → v ≡ stroke_in s) → f (nth s.tasks i) ≡ refused (number_of w.word) w.place → g (nth s.tasks i) ≡ nth s.tasks i → r ≡ w → Operation c s (refusal s r)
+      refused_there c f g v w r a k t y z e = rw e (refusal_at s found_there.0 room (named j) i found_there.1 c f (refused 17 0) g v w a k t found_there.2 y z)
 
-    -- the task there, as it stands among the state's tasks
-    here : nth (tasks_of s) i ≡ nth s.tasks i
-    here = task_at s (count_max s (foreign s) refl there.0) room (named j) i there.1 there.2
+      changed_there : (c : Call) (f : Task → Answer) (g : Task → Task) (v : Stroke) (z : Core) (u : Task) → answer c (state_in s) ≡ of_first (named j) f (refused 17 0) (tasks_of s) → next c (state_in s) ≡ record { tasks = modify (named j) g (tasks_of s); stroke = v } → accepted ≡ f (nth s.tasks i) → u ≡ g (nth s.tasks i) → z ≡ with_stroke s v → Operation c s (acceptance z i u)
+      changed_there c f g v z u a k y e x = operation s found_there.0 room (named j) i found_there.1 c f (refused 17 0) g v _ a k found_there.2 y (ap (λ w. changed w i u) x ∙ ap (λ t. with_stroke (changed s i t) v) e)
 
-    -- 18, 19, and a job that starts
-    pub release_early : (r : Step) → (nth s.tasks i).age < (nth s.tasks i).period → r ≡ refusal s Early (nth s.tasks i).number → Operation (release j) s r
-    unfolding answer next answer_by next_by next_stroke release_answer released early
-    release_early r a k =
-        let y = lt-ltb _ _ a in
-        refused_there (release j) release_answer released (stroke_in s) Early r refl refl (λ m. refl) (rw y) (rw y) k
+      -- the task there, as it stands among the state's tasks
+      here : nth (tasks_of s) i ≡ nth s.tasks i
+      here = task_at s found_there.0 room (named j) i found_there.1 found_there.2
 
-    pub release_late : (r : Step) → (nth s.tasks i).period ≤ (nth s.tasks i).age → 0 < (nth s.tasks i).left → r ≡ refusal s Late (nth s.tasks i).number → Operation (release j) s r
-    unfolding answer next answer_by next_by next_stroke release_answer released early pending
-    release_late r a l k =
-        let y = le-ltb _ _ a in
-        let z = lt-ltb _ _ l in
-        refused_there (release j) release_answer released (stroke_in s) Late r refl refl (λ m. refl) (rw (y, z)) (rw (y, z)) k
+      -- 18, 19, and a job that starts
+      pub release_early : (r : Rejection ℕ) (n : ℕ) → (nth s.tasks i).age < (nth s.tasks i).period → n ≡ (nth s.tasks i).number → r ≡ record { word = Early; place = n } → Operation (release j) s (refusal s r)
+      unfolding answer next answer_by next_by next_stroke release_answer released early
+      release_early r n a m k =
+          let y = lt-ltb _ _ a in
+          refused_there (release j) release_answer released (stroke_in s) _ r refl refl (λ m. refl) (rw (y, m)) (rw y) k
 
-    pub release_starts : (u : Task) (r : Step) → (nth s.tasks i).period ≤ (nth s.tasks i).age → (nth s.tasks i).left ≤ 0 → u ≡ with_job (nth s.tasks i) 0 (nth s.tasks i).budget → r ≡ acceptance s i u → Operation (release j) s r
-    unfolding answer next answer_by next_by next_stroke release_answer released early pending
-    release_starts u r a l e k =
-        let y = le-ltb _ _ a in
-        let z = le-ltb _ _ l in
-        changed_there (release j) release_answer released (stroke_in s) r s u refl refl (rw (y, z)) (rw (e, y, z)) refl k
+      pub release_late : (r : Rejection ℕ) (n : ℕ) → (nth s.tasks i).period ≤ (nth s.tasks i).age → 0 < (nth s.tasks i).left → n ≡ (nth s.tasks i).number → r ≡ record { word = Late; place = n } → Operation (release j) s (refusal s r)
+      unfolding answer next answer_by next_by next_stroke release_answer released early pending
+      release_late r n a l m k =
+          let y = le-ltb _ _ a in
+          let z = lt-ltb _ _ l in
+          refused_there (release j) release_answer released (stroke_in s) _ r refl refl (λ m. refl) (rw (y, z, m)) (rw (y, z)) k
 
-    -- 20, and a job that ends, with its stroke
-    pub finish_quiet : (r : Step) → (nth s.tasks i).left ≡ 0 → r ≡ refusal s Quiet (nth s.tasks i).number → Operation (finish j) s r
-    unfolding answer next answer_by next_by next_stroke finish_answer finished pending
-    finish_quiet r l k =
-        let z : ltb 0 (nth s.tasks i).left ≡ false = le-ltb 0 (nth s.tasks i).left (omega arith) in
-        refused_there (finish j) finish_answer finished (next_stroke (finish j) (state_in s)) Quiet r refl refl (λ m. m.answers (stroke_finished (stroke_in s)) (stroke_in s) ∙ ap (stroke_finished (stroke_in s)) here ∙ rw z) (rw z) (rw z) k
+      pub release_starts : (u : Task) → (nth s.tasks i).period ≤ (nth s.tasks i).age → (nth s.tasks i).left ≤ 0 → u ≡ with_job (nth s.tasks i) 0 (nth s.tasks i).budget → Operation (release j) s (acceptance s i u)
+      unfolding answer next answer_by next_by next_stroke release_answer released early pending
+      release_starts u a l e =
+          let y = le-ltb _ _ a in
+          let z = le-ltb _ _ l in
+          changed_there (release j) release_answer released (stroke_in s) s u refl refl (rw (y, z)) (rw (e, y, z)) refl
 
-    pub finish_ends : (u : Task) (v : Core) (r : Step) → ((nth s.tasks i).left ≡ 0 → ⊥) → u ≡ with_job (nth s.tasks i) (nth s.tasks i).age 0 → v ≡ with_stroke s (cond (eqb s.stroke_task (nth s.tasks i).number) no_stroke (stroke_in s)) → r ≡ acceptance v i u → Operation (finish j) s r
-    unfolding answer next answer_by next_by next_stroke finish_answer finished pending
-    finish_ends u v r l e x k =
-        let z : ltb 0 (nth s.tasks i).left ≡ true = lt-ltb 0 (nth s.tasks i).left (omega (arith, l)) in
-        let m = hit s (count_max s (foreign s) refl there.0) room (named j) i there.1 there.2 in
-        let own : next_stroke (finish j) (state_in s) ≡ cond (eqb s.stroke_task (nth s.tasks i).number) no_stroke (stroke_in s) = m.answers (stroke_finished (stroke_in s)) (stroke_in s) ∙ ap (stroke_finished (stroke_in s)) here ∙ rw z in
-        changed_there (finish j) finish_answer finished (next_stroke (finish j) (state_in s)) r v u refl refl (rw z) (rw (e, z)) (x ∙ sym (ap (with_stroke s) own)) k
+      -- 20, and a job that ends, with its stroke
+      pub finish_quiet : (r : Rejection ℕ) (n : ℕ) → (nth s.tasks i).left ≡ 0 → n ≡ (nth s.tasks i).number → r ≡ record { word = Quiet; place = n } → Operation (finish j) s (refusal s r)
+      unfolding answer next answer_by next_by next_stroke finish_answer finished pending
+      finish_quiet r n l m k =
+          let z : ltb 0 (nth s.tasks i).left ≡ false = le-ltb 0 (nth s.tasks i).left (omega (arith, l)) in
+          refused_there (finish j) finish_answer finished (next_stroke (finish j) (state_in s)) _ r refl refl (λ m. m.answers (stroke_finished (stroke_in s)) (stroke_in s) ∙ ap (stroke_finished (stroke_in s)) here ∙ rw z) (rw (z, m)) (rw z) k
+
+      pub finish_ends : (u : Task) → ((nth s.tasks i).left ≡ 0 → ⊥) → u ≡ with_job (nth s.tasks i) (nth s.tasks i).age 0 → Operation (finish j) s (acceptance (with_stroke s (cond (eqb s.stroke_task (nth s.tasks i).number) no_stroke (stroke_in s))) i u)
+      unfolding answer next answer_by next_by next_stroke finish_answer finished pending
+      finish_ends u l e =
+          let z : ltb 0 (nth s.tasks i).left ≡ true = lt-ltb 0 (nth s.tasks i).left (omega (arith, l)) in
+          let m = hit s found_there.0 room (named j) i found_there.1 found_there.2 in
+          let own : next_stroke (finish j) (state_in s) ≡ cond (eqb s.stroke_task (nth s.tasks i).number) no_stroke (stroke_in s) = m.answers (stroke_finished (stroke_in s)) (stroke_in s) ∙ ap (stroke_finished (stroke_in s)) here ∙ rw z in
+          changed_there (finish j) finish_answer finished (next_stroke (finish j) (state_in s)) _ u refl refl (rw z) (rw (e, z)) (sym (ap (with_stroke s) own))

@@ -11,7 +11,7 @@ use native.Mathlib.Nat.{mod-eq_of_lt}
 use native.Mathlib.Numerals.{add-one}
 use native.Mathlib.Omega.{arith}
 use lib.ListN.{length, take, length-append, get_or-append}
-use lib.Seq.{get_or-append_seam, take_at, take-suc, take-take, length-take-le}
+use lib.Seq.{get_or-append_seam, take_at, take-suc, take_all, length-take-le}
 use lib.Dec.{ltb, leb, eqb}
 use lib.Bits.{bit_or, or_lt}
 use lib.Count.{ones, ones-ones}
@@ -58,8 +58,8 @@ pub record Bounded (t : Task) : Type 0 where
   pub age_max : t.age ≤ t.period
   pub left_max : t.left ≤ t.budget
 
-fails_breaks : (last : ℕ) (t : Task) → Fails (breaks last t) ((last < rank t) × ((1 ≤ t.stroke) × ((t.stroke ≤ t.budget) × ((t.budget ≤ t.period) × ((t.age ≤ t.period) × (t.left ≤ t.budget))))))
-fails_breaks last t = fails_both (fails_le _ _) (fails_both (fails_lt _ _) (fails_both (fails_lt _ _) (fails_both (fails_lt _ _) (fails_both (fails_lt _ _) (fails_lt _ _)))))
+fails_breaks : (last : ℕ) (t : Task) → Fails (breaks last t) ((((((last < rank t) × (1 ≤ t.stroke)) × (t.stroke ≤ t.budget)) × (t.budget ≤ t.period)) × (t.age ≤ t.period)) × (t.left ≤ t.budget))
+fails_breaks last t = fails_both (fails_both (fails_both (fails_both (fails_both (fails_le _ _) (fails_lt _ _)) (fails_lt _ _)) (fails_lt _ _)) (fails_lt _ _)) (fails_lt _ _)
 
 -- a stroke without ticks left has number 0
 fails_none : (j r : ℕ) → Fails (eqb r 0 && ltb 0 j) (r ≡ 0 → j ≡ 0)
@@ -69,19 +69,8 @@ fails_none j r = record { holds = λ e z. let h = ltb-false 0 j (sym (ap (λ b. 
     go true e h = le-ltb 0 j (omega (arith, h (eqb-true r 0 e)))
     go false e h = refl
 
-fails_ends : (j r : ℕ) (p : Pass) (n : ℕ) → Fails (ends_foreign j r p n) ((p.numbers ≤ 63) × ((p.last / 64 ≤ 60000) × ((n ≤ ones p.seen) × ((r ≤ p.most) × (r ≡ 0 → j ≡ 0)))))
-fails_ends j r p n = fails_both (fails_lt _ _) (fails_both (fails_lt _ _) (fails_both (fails_lt _ _) (fails_both (fails_lt _ _) (fails_none j r))))
-
--- the test and the step of the pass as the code makes them
-pub breaks_is : (here last : ℕ) (t : Task) → here ≡ rank t → (leb here last || (ltb t.stroke 1 || (ltb t.budget t.stroke || (ltb t.period t.budget || (ltb t.period t.age || ltb t.budget t.left))))) ≡ breaks last t
-breaks_is here last t e = rw e
-
-module _ (j r i : ℕ) (p : Pass) (t : Task) (here b : ℕ) (e : here ≡ rank t) (f : b ≡ 2 ^ (t.number % 64)) where
-  pub after_own : (m : ℕ) → m ≡ most_left t → is_own j r t ≡ true → ◌≡◌ {A = Pass} (record { last = here; numbers = bit_or p.numbers t.number; seen = bit_or p.seen b; place = i; most = m }) (after j r i p t)
-  after_own m g h = rw (e, f, g, h)
-
-  pub after_other : is_own j r t ≡ false → ◌≡◌ {A = Pass} (record { last = here; numbers = bit_or p.numbers t.number; seen = bit_or p.seen b; place = p.place; most = p.most }) (after j r i p t)
-  after_other h = rw (e, f, h)
+fails_ends : (p : Pass) (n : ℕ) → Fails (ends_foreign p n) (((((p.numbers ≤ 63) × (p.last / 64 ≤ 60000)) × (n ≤ ones p.seen)) × (p.left ≤ p.most)) × (p.left ≡ 0 → p.own ≡ 0))
+fails_ends p n = fails_both (fails_both (fails_both (fails_both (fails_lt _ _) (fails_lt _ _)) (fails_lt _ _)) (fails_lt _ _)) (fails_none p.own p.left)
 
 -- ranks rise with the priority order of tasks whose numbers are at most 63
 rank_above : (t u : Task) → t.number ≤ 63 → u.number ≤ 63 → rank t < rank u → Above t u
@@ -117,8 +106,8 @@ abbrev Met : (j : ℕ) (old : List Task) (place most : ℕ) → Type 0
 Met j old place most =
     ((place < length old) × ((nth old place).number ≡ j) × (most ≡ most_left (nth old place))) ⊎ ((most ≡ 0) × Each (λ t. t.number ≡ j → ⊥) old)
 
--- what is known after some tasks of a state whose stroke has number j and r ticks left
-pub record Passed (j r : ℕ) (old : List Task) (p : Pass) : Type 0 where
+-- what is known after some tasks
+pub record Passed (old : List Task) (p : Pass) : Type 0 where
   pub bounded : Each Bounded old
   pub rising : EachPair (λ t u. rank t < rank u) old
   pub ranked : Each (λ t. rank t ≤ p.last) old
@@ -126,9 +115,9 @@ pub record Passed (j r : ℕ) (old : List Task) (p : Pass) : Type 0 where
   pub above : Each (λ t. t.number ≤ p.numbers) old
   pub below : Each (λ t. t.number < 64) old → p.numbers < 64
   pub seen : Seen old p.seen
-  pub own : 0 < r → Met j old p.place p.most
+  pub own : 0 < p.left → Met p.own old p.place p.most
 
-pub passed_start : (j r : ℕ) → Passed j r [] begun
+pub passed_start : (j r : ℕ) → Passed [] (begun j r)
 unfolding Each EachPair
 passed_start j r = record {
   bounded = tt;
@@ -202,31 +191,31 @@ module _ (old : List Task) (t : Task) where
             go (no y) = omega (arith, y)
 
   -- it is the stroke's task, or not
-  met_turn : (j r place most : ℕ) → 0 < r → Met j old place most → Met j (old ++ t ∷ []) (cond (is_own j r t) (length old) place) (cond (is_own j r t) (most_left t) most)
+  met_turn : (p : Pass) → 0 < p.left → Met p.own old p.place p.most → Met p.own (old ++ t ∷ []) (cond (is_own p t) (length old) p.place) (cond (is_own p t) (most_left t) p.most)
   unfolding Each
-  met_turn j r place most h m = rw (lt-ltb 0 r h) (go (eqb t.number j) refl)
+  met_turn p h m = rw (lt-ltb 0 p.left h) (go (eqb t.number p.own) refl)
     where
-      go : (b : Bool) → eqb t.number j ≡ b → Met j (old ++ t ∷ []) (cond b (length old) place) (cond b (most_left t) most)
-      go true e = inl (omega (arith, more), ap (λ u. u.number) behind ∙ eqb-true t.number j e, sym (ap most_left behind))
-      go false e = ⊎_elim (λ x. inl (omega (arith, more, x.0), ap (λ u. u.number) (before place x.0) ∙ x.1, x.2 ∙ sym (ap most_left (before place x.0)))) (λ x. inr (x.0, each_append (λ u. u.number ≡ j → ⊥) old (t ∷ []) x.1 (eqb-false t.number j e, tt))) m
+      go : (b : Bool) → eqb t.number p.own ≡ b → Met p.own (old ++ t ∷ []) (cond b (length old) p.place) (cond b (most_left t) p.most)
+      go true e = inl (omega (arith, more), ap (λ u. u.number) behind ∙ eqb-true t.number p.own e, sym (ap most_left behind))
+      go false e = ⊎_elim (λ x. inl (omega (arith, more, x.0), ap (λ u. u.number) (before p.place x.0) ∙ x.1, x.2 ∙ sym (ap most_left (before p.place x.0)))) (λ x. inr (x.0, each_append (λ u. u.number ≡ p.own → ⊥) old (t ∷ []) x.1 (eqb-false t.number p.own e, tt))) m
 
-  module _ (j r : ℕ) (p : Pass) (s : Passed j r old p) where
+  module _ (p : Pass) (s : Passed old p) where
     -- a task that does not break the form
-    pub passed_turn : breaks p.last t ≡ false → Passed j r (old ++ t ∷ []) (after j r (length old) p t)
+    pub passed_turn : breaks p.last t ≡ false → Passed (old ++ t ∷ []) (after (length old) p t)
     unfolding Each EachPair
     passed_turn e =
         let h = (fails_breaks p.last t).holds e in
         record {
-          bounded = each_append Bounded old (t ∷ []) s.bounded (record { stroke_min = h.1.0; stroke_max = h.1.1.0; budget_max = h.1.1.1.0; age_max = h.1.1.1.1.0; left_max = h.1.1.1.1.1 }, tt);
-          rising = pairs_append (λ u v. rank u < rank v) old (t ∷ []) s.rising (tt, tt) (each_of old (λ u k. (omega (arith, h.0, k), tt)) s.ranked);
-          ranked = each_append (λ u. rank u ≤ rank t) old (t ∷ []) (each_of old (λ u k. omega (arith, h.0, k)) s.ranked) (omega arith, tt);
+          bounded = each_append Bounded old (t ∷ []) s.bounded (record { stroke_min = h.0.0.0.0.1; stroke_max = h.0.0.0.1; budget_max = h.0.0.1; age_max = h.0.1; left_max = h.1 }, tt);
+          rising = pairs_append (λ u v. rank u < rank v) old (t ∷ []) s.rising (tt, tt) (each_of old (λ u k. (omega (arith, h.0.0.0.0.0, k), tt)) s.ranked);
+          ranked = each_append (λ u. rank u ≤ rank t) old (t ∷ []) (each_of old (λ u k. omega (arith, h.0.0.0.0.0, k)) s.ranked) (omega arith, tt);
           latest = inr (length old, omega (arith, more), ap rank behind);
           above = each_append (λ u. u.number ≤ bit_or p.numbers t.number) old (t ∷ []) (each_of old (λ u k. omega (arith, k, or_left p.numbers t.number)) s.above) (or_right p.numbers t.number, tt);
           below = λ k.
               let halves = each_halves (λ u. u.number < 64) old (t ∷ []) k in
               or_lt 6 p.numbers t.number (s.below halves.0) halves.1.0;
           seen = seen_turn p.seen s.seen;
-          own = λ k. met_turn j r p.place p.most k (s.own k);
+          own = λ k. met_turn p k (s.own k);
         }
 
     -- a task that breaks it is in no state in form
@@ -238,53 +227,53 @@ module _ (old : List Task) (t : Task) where
         let before : Each (λ u. Above u t) old = pairs_before Above old t [] f.ordered in
         let later : Each (λ u. rank u < rank t) old = each_both old (λ u a b. above_rank u t a.number_max b) sounds.0 before in
         let after : p.last < rank t = ⊎_elim (λ z. omega (arith, own.period_min)) (λ k. omega (arith, k.2, each_at (λ u. rank u < rank t) no_task old k.0 k.1 later)) s.latest in
-        true≢false (sym e ∙ (fails_breaks p.last t).fails (after, (own.stroke_min, (own.stroke_max, (own.budget_max, (own.age_max, own.left_max))))))
+        true≢false (sym e ∙ (fails_breaks p.last t).fails (((((after, own.stroke_min), own.stroke_max), own.budget_max), own.age_max), own.left_max))
 
 -- the end of the pass: it tells whether the tasks and the stroke are in form
-module _ (j r : ℕ) (old : List Task) (p : Pass) (s : Passed j r old p) where
+module _ (old : List Task) (p : Pass) (s : Passed old p) where
   abbrev k : Stroke
-  k = record { task = j; left = r }
+  k = record { task = p.own; left = p.left }
 
   small : (u : Task) → u.number < 64 → slot u ≡ u.number
   small u h = mod-eq_of_lt h
 
-  pub ends_form : length old ≤ 64 → ends_foreign j r p (length old) ≡ false → Form old
+  pub ends_form : length old ≤ 64 → ends_foreign p (length old) ≡ false → Form old
   unfolding Distinct
   ends_form room e =
-      let h = (fails_ends j r p (length old)).holds e in
-      let low : Each (λ u. u.number ≤ 63) old = each_of old (λ u k. omega (arith, k, h.0)) s.above in
-      let short : Each (λ u. u.period ≤ 60000) old = each_of old (λ u k. omega (arith, k, h.1.0)) s.ranked in
+      let h = (fails_ends p (length old)).holds e in
+      let low : Each (λ u. u.number ≤ 63) old = each_of old (λ u k. omega (arith, k, h.0.0.0.0)) s.above in
+      let short : Each (λ u. u.period ≤ 60000) old = each_of old (λ u k. omega (arith, k, h.0.0.0.1)) s.ranked in
       let ranges : Each (λ u. (u.number ≤ 63) × (u.period ≤ 60000)) old = each_both old (λ u a b. (a, b)) low short in
       record {
         count = room;
         sound = each_both old (λ u a c. record { number_max = a.0; period_min = omega (arith, c.stroke_min, c.stroke_max, c.budget_max); period_max = a.1; budget_min = omega (arith, c.stroke_min, c.stroke_max); budget_max = c.budget_max; age_max = c.age_max; left_max = c.left_max; stroke_min = c.stroke_min; stroke_max = c.stroke_max }) ranges s.bounded;
-        distinct = pairs_of old (λ u v a b d x. d (ap (λ n. n % 64) x)) low (s.seen.apart h.1.1.0);
+        distinct = pairs_of old (λ u v a b d x. d (ap (λ n. n % 64) x)) low (s.seen.apart h.0.0.1);
         ordered = pairs_of old (λ u v a b r. rank_above u v a b r) low s.rising;
       }
 
-  pub ends_stroke : ends_foreign j r p (length old) ≡ false → StrokeForm k old
-  ends_stroke e = ((λ x. go x (s.own x)), h.1.1.1.1)
+  pub ends_stroke : ends_foreign p (length old) ≡ false → StrokeForm k old
+  ends_stroke e = ((λ x. go x (s.own x)), h.1)
     where
-      h : (p.numbers ≤ 63) × ((p.last / 64 ≤ 60000) × ((length old ≤ ones p.seen) × ((r ≤ p.most) × (r ≡ 0 → j ≡ 0))))
-      h = (fails_ends j r p (length old)).holds e
+      h : ((((p.numbers ≤ 63) × (p.last / 64 ≤ 60000)) × (length old ≤ ones p.seen)) × (p.left ≤ p.most)) × (p.left ≡ 0 → p.own ≡ 0)
+      h = (fails_ends p (length old)).holds e
 
-      go : 0 < r → Met j old p.place p.most → (i : ℕ) × (i < length old) × StrokeIs k (nth old i)
-      go x (inl m) = (p.place, m.0, record { number = m.1; pends = omega (arith, x, m.2, h.1.1.1.0); length_max = omega (arith, m.2, h.1.1.1.0); job_max = omega (arith, m.2, h.1.1.1.0) })
-      go x (inr m) = absurd (omega (arith, x, m.0, h.1.1.1.0))
+      go : 0 < p.left → Met p.own old p.place p.most → (i : ℕ) × (i < length old) × StrokeIs k (nth old i)
+      go x (inl m) = (p.place, m.0, record { number = m.1; pends = omega (arith, x, m.2, h.0.1); length_max = omega (arith, m.2, h.0.1); job_max = omega (arith, m.2, h.0.1) })
+      go x (inr m) = absurd (omega (arith, x, m.0, h.0.1))
 
-  pub ends_broken : ends_foreign j r p (length old) ≡ true → Form old → StrokeForm k old → ⊥
+  pub ends_broken : ends_foreign p (length old) ≡ true → Form old → StrokeForm k old → ⊥
   unfolding Distinct
   ends_broken e f g =
       let low : Each (λ u. u.number < 64) old = each_of old (λ u k. omega (arith, k.number_max)) f.sound in
       let apart : EachPair Apart old = pairs_of old (λ u v a b d x. d (sym (small u a) ∙ x ∙ small v b)) low f.distinct in
       let last : p.last / 64 ≤ 60000 = ⊎_elim (λ z. omega (arith, z)) (λ k. omega (arith, k.2, (each_at Sound no_task old k.0 k.1 f.sound).number_max, (each_at Sound no_task old k.0 k.1 f.sound).period_max)) s.latest in
-      true≢false (sym e ∙ (fails_ends j r p (length old)).fails (omega (arith, s.below low), (last, (s.seen.counted apart, (enough (dec_lt 0 r), g.1)))))
+      true≢false (sym e ∙ (fails_ends p (length old)).fails ((((omega (arith, s.below low), last), s.seen.counted apart), enough (dec_lt 0 p.left)), g.1))
     where
-      enough : Dec (0 < r) → r ≤ p.most
+      enough : Dec (0 < p.left) → p.left ≤ p.most
       enough (no h) = omega (arith, h)
       enough (yes h) =
           let w = g.0 h in
-          ⊎_elim (λ m. let is = each_at _ no_task old p.place m.0 (own_of_place (StrokeIs k) old w.0 f.distinct w.1 w.2) (m.1 ∙ sym w.2.number) in omega (arith, is.length_max, is.job_max, m.2)) (λ m. absurd (each_at (λ u. u.number ≡ j → ⊥) no_task old w.0 w.1 m.1 w.2.number)) (s.own h)
+          ⊎_elim (λ m. let is = each_at _ no_task old p.place m.0 (own_of_place (StrokeIs k) old w.0 f.distinct w.1 w.2) (m.1 ∙ sym w.2.number) in omega (arith, is.length_max, is.job_max, m.2)) (λ m. absurd (each_at (λ u. u.number ≡ p.own → ⊥) no_task old w.0 w.1 m.1 w.2.number)) (s.own h)
 
 -- the one task of a number, where a test asks for it
 only_place : (q : Task → Bool) (j : ℕ) → ((t : Task) → q t ≡ true → t.number ≡ j) → (s : List Task) → EachPair Distinct s → (i : ℕ) → i < length s → (nth s i).number ≡ j → q (nth s i) ≡ true → i ≡ place_of q s
@@ -297,56 +286,63 @@ only_place q j f (t ∷ s) d (suc i) lt e h = go (q t) refl (only_place q j f s 
     go true x y = absurd (each_at _ no_task s i (omega arith) d.0 (f t x ∙ sym e))
     go false x y = ap suc y
 
--- The same of a state, as the code goes from task to task.
-pub too_many : (s : Core) → 64 < s.count → true ≡ foreign s
-too_many s h = is_foreign s (λ f. omega (arith, f.count))
+-- The same of a state whose tasks are l, as the code goes from one to the next.
+pub record PassedIn (s : Core) (l : List Task) (i : ℕ) (p : Pass) : Type 0 where
+  pub few : s.count ≤ 64
+  pub many : length l ≡ s.count
+  pub tasks : l ≡ tasks_of s
+  pub passed : Passed (take i l) p
+  pub own : p.own ≡ s.stroke_task
+  pub left : p.left ≡ s.stroke_left
 
-abbrev pub PassedIn : Core → ℕ → Pass → Type 0
-PassedIn s i p = Passed s.stroke_task s.stroke_left (take i s.tasks) p
+pub more_than_64 : (s : Core) → 64 < s.count → true ≡ foreign s
+more_than_64 s h = is_foreign s (λ f. omega (arith, f.count))
 
-pub passed_begun : (s : Core) (p : Pass) → p ≡ begun → PassedIn s 0 p
-passed_begun s p e = rw e (passed_start s.stroke_task s.stroke_left)
+pub too_many : (s : Core) → length s.tasks ≡ 64 → length s.tasks < s.count → true ≡ foreign s
+too_many s r h = more_than_64 s (omega arith)
 
-module _ (s : Core) (i : ℕ) (p : Pass) (room : length s.tasks ≡ 64) (most : s.count ≤ 64) (h : i < s.count) (b : PassedIn s i p) (r : Bool) (e : r ≡ breaks p.last (nth s.tasks i)) where
-  next_task : take (i + 1) s.tasks ≡ take i s.tasks ++ nth s.tasks i ∷ []
-  next_task = rw (add-one i) (take-suc s.tasks i no_task (omega arith))
+pub passed_begun : (s : Core) (l : List Task) (p : Pass) → length s.tasks ≡ 64 → s.count ≤ length s.tasks → l ≡ tasks_of s → p ≡ begun s.stroke_task s.stroke_left → PassedIn s l 0 p
+passed_begun s l p room h t e = record { few = omega arith; many = ap length t ∙ length-take-le s.count s.tasks h; tasks = t; passed = rw e (passed_start s.stroke_task s.stroke_left); own = rw e; left = rw e }
 
-  front : length (take i s.tasks) ≡ i
-  front = length-take-le i s.tasks (omega arith)
+module _ (s : Core) (l : List Task) (i : ℕ) (p : Pass) (h : i < length l) (b : PassedIn s l i p) (r : Bool) (e : r ≡ breaks p.last (nth l i)) where
+  next_task : take (i + 1) l ≡ take i l ++ nth l i ∷ []
+  next_task = rw (add-one i) (take-suc l i no_task h)
 
-  pub pass_turn : (q : Pass) → r ≡ false → q ≡ after s.stroke_task s.stroke_left i p (nth s.tasks i) → PassedIn s (i + 1) q
+  pub pass_turn : (q : Pass) → r ≡ false → q ≡ after i p (nth l i) → PassedIn s l (i + 1) q
   pass_turn q x y =
-      let turned : Passed s.stroke_task s.stroke_left (take i s.tasks ++ nth s.tasks i ∷ []) (after s.stroke_task s.stroke_left (length (take i s.tasks)) p (nth s.tasks i)) = passed_turn (take i s.tasks) (nth s.tasks i) _ _ p b (sym e ∙ x) in
-      rw (next_task, y) (subst (λ n. Passed s.stroke_task s.stroke_left (take i s.tasks ++ nth s.tasks i ∷ []) (after s.stroke_task s.stroke_left n p (nth s.tasks i))) front turned)
+      let turned : Passed (take i l ++ nth l i ∷ []) (after (length (take i l)) p (nth l i)) = passed_turn (take i l) (nth l i) p b.passed (sym e ∙ x) in
+      let front : length (take i l) ≡ i = length-take-le i l (omega arith) in
+      record { few = b.few; many = b.many; tasks = b.tasks; passed = rw (next_task, y) (rw front at turned); own = rw y b.own; left = rw y b.left }
 
   pub pass_breaks : r ≡ true → true ≡ foreign s
-  pass_breaks x = is_foreign s (λ f. breaks_form (take i s.tasks) (nth s.tasks i) _ _ p b (sym e ∙ x) (subst Form (take-take (i + 1) s.count s.tasks (omega arith) ∙ next_task) (form_take (i + 1) (tasks_of s) f.form.tasks)))
+  pass_breaks x = is_foreign s (λ f. breaks_form (take i l) (nth l i) p b.passed (sym e ∙ x) (subst Form (ap (take (i + 1)) (sym b.tasks) ∙ next_task) (form_take (i + 1) (tasks_of s) f.form.tasks)))
 
 -- after all tasks
-module _ (s : Core) (i : ℕ) (p : Pass) (room : length s.tasks ≡ 64) (most : s.count ≤ 64) (h : i ≤ s.count) (k : s.count ≤ i) (b : PassedIn s i p) where
-  all : Passed s.stroke_task s.stroke_left (tasks_of s) p
-  all =
-      let same : i ≡ s.count = omega arith in
-      subst (λ n. PassedIn s n p) same b
+module _ (s : Core) (l : List Task) (i : ℕ) (p : Pass) (k : length l ≤ i) (b : PassedIn s l i p) where
+  all : Passed (tasks_of s) p
+  all = subst (λ m. Passed m p) (take_all i l k ∙ b.tasks) b.passed
 
-  many : length (tasks_of s) ≡ s.count
-  many = length-take-le s.count s.tasks (omega arith)
+  stroke : record { task = p.own; left = p.left } ≡ stroke_in s
+  stroke = λ j. record { task = b.own j; left = b.left j }
 
-  pub pass_told : (r : Bool) → r ≡ ends_foreign s.stroke_task s.stroke_left p s.count → r ≡ foreign s
+  pub pass_told : (r : Bool) → r ≡ ends_foreign p s.count → r ≡ foreign s
   pass_told r e = go r refl
     where
-      told : r ≡ ends_foreign s.stroke_task s.stroke_left p (length (tasks_of s))
-      told = e ∙ ap (ends_foreign s.stroke_task s.stroke_left p) (sym many)
+      count : length (tasks_of s) ≡ s.count
+      count = ap length (sym b.tasks) ∙ b.many
+
+      told : r ≡ ends_foreign p (length (tasks_of s))
+      told = e ∙ ap (ends_foreign p) (sym count)
 
       go : (w : Bool) → r ≡ w → r ≡ foreign s
-      go true x = x ∙ is_foreign s (λ f. ends_broken _ _ (tasks_of s) p all (sym told ∙ x) f.form.tasks (f.form.lasts, f.form.none))
+      go true x = x ∙ is_foreign s (λ f. ends_broken (tasks_of s) p all (sym told ∙ x) f.form.tasks (subst (λ k. StrokeForm k (tasks_of s)) (sym stroke) (f.form.lasts, f.form.none)))
       go false x =
-          let g = ends_stroke _ _ (tasks_of s) p all (sym told ∙ x) in
-          x ∙ sym (form_foreign s (record { count = most; form = record { tasks = ends_form _ _ (tasks_of s) p all (omega (arith, many)) (sym told ∙ x); lasts = g.0; none = g.1 } }))
+          let g : StrokeForm (stroke_in s) (tasks_of s) = subst (λ k. StrokeForm k (tasks_of s)) stroke (ends_stroke (tasks_of s) p all (sym told ∙ x)) in
+          x ∙ sym (form_foreign s (record { count = b.few; form = record { tasks = ends_form (tasks_of s) p all (omega (arith, count, b.few)) (sym told ∙ x); lasts = g.0; none = g.1 } }))
 
   -- where a stroke lasts, its task is the one that the tick goes to
   pub pass_place : foreign s ≡ false → 0 < s.stroke_left → p.place ≡ place_of (turn (stroke_in s)) (tasks_of s)
-  pass_place e l = go (all.own l)
+  pass_place e l = go (rw b.own at (all.own (rw b.left l)))
     where
       f : InForm s
       f = foreign_form s e

@@ -1,6 +1,5 @@
 -- Release, finish and tick of a state (docs/SHEET.md, sections 6 and 14); each looks first whether the state is foreign.
 use Rattle.std.specs.Prelude.{ℕ, ◌≡◌, false, cond}
-use Rattle.sheet.specs.declared.Refusal.{Refusal}
 use Rattle.sheet.specs.Refusals.{number_of}
 use Rattle.timing.specs.Calls.{Call, Answer, accepted, served, idle, refused, answer, next}
 use Rattle.timing.specs.Strokes.{TickGoes}
@@ -19,9 +18,9 @@ answer_of (Ok (Served j)) = served j
 answer_of (Ok Idle) = idle
 answer_of (Err r) = refused (number_of r.word) r.place
 
--- a call that is refused with a word and a place, and hands back this state
-abbrev pub refusal : Core → Refusal → ℕ → Step
-refusal s w p = record { answer = Err (record { word = w; place = p }); core = s }
+-- a call that is refused, and hands back this state
+abbrev pub refusal : Core → Rejection ℕ → Step
+refusal s r = record { answer = Err r; core = s }
 
 -- what a call on a state answers: 21 with place 0 where the state breaks its own form, else what timing's state answers
 unfoldable pub ask : Call → Core → Answer

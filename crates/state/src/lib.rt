@@ -3,19 +3,21 @@
 
 mod form;
 
-ghost use Rattle.std.specs.Prelude.{◌≡◌, cond, ◌-◌, ◌<◌, ◌≤◌, eqb};
-ghost use Rattle.fit.specs.Lists.{place_of};
-ghost use Rattle.timing.specs.Tasks.{named, with_job, older};
-ghost use Rattle.timing.specs.Calls.{release, finish, tick, no_stroke, stroke_of, stroke_ticks};
-ghost use Rattle.state.specs.State.{tasks_of, stroke_in, foreign};
+ghost use Rattle.std.specs.Prelude.{◌≡◌, cond, ◌-◌, ◌<◌, ◌≤◌, eqb, ◌==◌, IfOk, IfErr};
+ghost use Rattle.std.specs.List.{position};
+ghost use Rattle.timing.specs.Tasks.{older, used};
+ghost use Rattle.timing.specs.Calls.{release, finish, tick, no_stroke, stroke_ticks, stroke_ticked};
+ghost use Rattle.timing.specs.Serving.{nth};
+ghost use Rattle.state.specs.State.{stroke_in, foreign};
 ghost use Rattle.state.specs.Operations.{refusal, Operation, Unaltered, Serves};
 ghost use Rattle.state.specs.Steps.{spot, changed, with_stroke, acceptance};
 
+use form::Pass;
 use sheet::{Refusal, Rejection};
 use timing::Task;
 
 // The state of a core: its tasks are the first `count` places, in priority order; the number of the task whose stroke lasts and the ticks left
-// to it, both 0 for none.
+// to it, both 0 for none. The count stands beside the places, as in the C struct `homvaits_core`.
 #[repr(C)]
 #[derive(Clone, Copy)]
 pub struct Core {
@@ -43,60 +45,29 @@ pub struct Step {
     pub core: Core,
 }
 
-// The place of the task with this number, or the number of tasks.
-fn first_named(core: Core, number: u64) -> usize
-    requires { core.count ≤ 64 }
-    ensures { result ≡ place_of (named number) (tasks_of core) }
-{
-    let count = core.count;
-    let mut i = 0;
-    while i < count {
-        let t = core.tasks[i];
-        if t.number as u64 == number {
-            return i;
+impl Step {
+    // A refused call hands the state back as given.
+    pub fn refused(core: Core, why: Rejection) -> Step
+        ensures { result ≡ refusal core why }
+    {
+        Step {
+            answer: Err(why),
+            core,
         }
-        i += 1;
-    }
-    i
-}
-
-// The place of the task with this number in a state: 21, then 17, else where it stands.
-fn spot_of(core: Core, number: u64) -> Result<usize, Refusal>
-    ensures { result ≡ spot core number }
-{
-    if core.is_foreign() {
-        return Err(Refusal::Foreign);
-    }
-    let at = first_named(core, number);
-    if core.count <= at {
-        return Err(Refusal::Unlisted);
-    }
-    Ok(at)
-}
-
-// The task with another age and other ticks left.
-fn with_job(t: Task, age: u16, left: u16) -> Task
-    ensures { result ≡ with_job t age left }
-{
-    Task {
-        period: t.period,
-        budget: t.budget,
-        age,
-        left,
-        number: t.number,
-        stroke: t.stroke,
     }
 }
 
 // The task one tick older, up to its period.
+#[tactic(auto, unfolding(timing::specs::Tasks::older, timing::specs::Tasks::with_job))]
 fn aged(t: Task) -> Task
     ensures { result ≡ older t }
 {
-    if t.age < t.period {
-        with_job(t, t.age + 1, t.left)
+    let age = if t.age < t.period {
+        t.age + 1
     } else {
-        with_job(t, t.period, t.left)
-    }
+        t.period
+    };
+    Task { age, ..t }
 }
 
 // The ticks left of the stroke in which a task has its tick, after it: of so many, or of a stroke that begins where there are none.
@@ -106,83 +77,102 @@ fn ticks_after(ticks: u8, t: Task) -> u8
     if 0 < ticks {
         return ticks - 1;
     }
-    if (t.stroke as u16) < t.left {
-        return form::less_one(t.stroke);
-    }
-    form::less_one(t.left as u8)
+    (u16::from(t.stroke).min(t.left) as u8).saturating_sub(1)
 }
 
-// The number that stands for a stroke of a task with so many ticks left: 0 where there are none.
-fn stroke_number(number: u8, left: u8) -> u8
-    ensures { result ≡ (stroke_of number left).task }
+// The place of the first task with this number.
+fn first_named(tasks: &[Task], number: u64) -> Option<usize>
+    ensures { result ≡ position (λ t. t.number == number) tasks.now }
 {
-    if left == 0 { 0 } else { number }
-}
-
-// A refused call hands the state back as given.
-pub fn refuse(core: Core, word: Refusal, place: u16) -> Step
-    ensures { result ≡ refusal core word place }
-{
-    Step {
-        answer: Err(word.at(place)),
-        core,
-    }
-}
-
-// The state with another task at a place.
-fn with_task(core: Core, at: usize, t: Task) -> Core
-    requires { at < 64 }
-    ensures { result ≡ changed core at t }
-{
-    let mut next = core;
-    next.tasks[at] = t;
-    next
-}
-
-// The state without its stroke, if that is of the task with this number.
-fn without_stroke(core: Core, number: u8) -> Core
-    ensures { result ≡ with_stroke core (cond (eqb core.stroke_task number) no_stroke (stroke_in core)) }
-{
-    let mut next = core;
-    if next.stroke_task == number {
-        next.stroke_task = 0;
-        next.stroke_left = 0;
-    }
-    next
-}
-
-fn accept(core: Core, at: usize, t: Task) -> Step
-    requires { at < 64 }
-    ensures { result ≡ acceptance core at t }
-{
-    Step {
-        answer: Ok(Reply::Accepted),
-        core: with_task(core, at, t),
-    }
+    tasks.iter().position(|t| u64::from(t.number) == number)
 }
 
 impl Core {
     // Whether the state breaks its own form (21).
-    pub fn is_foreign(self) -> bool
-        ensures { result ≡ foreign self }
+    pub fn is_foreign(&self) -> bool
+        ensures { result ≡ foreign self.now }
     {
-        let count = self.count;
-        if 64 < count {
+        let Some(tasks) = self.tasks.get(..self.count) else {
             return true;
-        }
-        let own = self.stroke_task;
-        let left = self.stroke_left;
-        let mut pass = form::begun();
-        let mut i = 0;
-        while i < count {
-            let t = self.tasks[i];
-            if form::breaks(pass, t) {
+        };
+        let mut pass = Pass::new(self.stroke_task, self.stroke_left);
+        for (i, &t) in tasks.iter().enumerate() {
+            if pass.breaks(t) {
                 return true;
             }
-            pass = form::after(pass, t, i, own, left);
-            i += 1;
+            pass = pass.after(i, t);
         }
-        form::ends_foreign(pass, count, own, left)
+        pass.ends_foreign(self.count)
+    }
+
+    // The place of the task with this number: 21, then 17, else where it stands.
+    #[tactic(auto, unfolding(crate::specs::Steps::spot, timing::specs::Tasks::named))]
+    fn spot_of(&self, number: u64) -> Result<usize, Rejection>
+        ensures { result ≡ spot self.now number }
+    {
+        if self.is_foreign() {
+            return Err(Refusal::Foreign.at(0));
+        }
+        first_named(&self.tasks[..self.count], number).ok_or(Refusal::Unlisted.at(0))
+    }
+
+    // The state with another task at a place.
+    fn with_task(self, at: usize, t: Task) -> Core
+        requires { at < 64 }
+        ensures { result ≡ changed self at t }
+    {
+        let mut next = self;
+        next.tasks[at] = t;
+        next
+    }
+
+    // The state without its stroke, if that is of the task with this number.
+    fn without_stroke(self, number: u8) -> Core
+        ensures { result ≡ with_stroke self (cond (eqb self.stroke_task number) no_stroke (stroke_in self)) }
+    {
+        if self.stroke_task != number {
+            return self;
+        }
+        Core {
+            stroke_task: 0,
+            stroke_left: 0,
+            ..self
+        }
+    }
+
+    // The place of the task that a release names, and the task with its new job: 21, 17, 18, 19.
+    fn released(&self, number: u64) -> Result<(usize, Task), Rejection>
+        ensures refused { IfErr result (λ r. Operation (release number) self.now (refusal self.now r)) }
+        ensures accepted { IfOk result (λ x. (x.0 < 64) × Operation (release number) self.now (acceptance self.now x.0 x.1)) }
+    {
+        let at = self.spot_of(number)?;
+        let t = self.tasks[at];
+        let place = u16::from(t.number);
+        if t.age < t.period {
+            return Err(Refusal::Early.at(place));
+        }
+        if 0 < t.left {
+            return Err(Refusal::Late.at(place));
+        }
+        let released = Task {
+            age: 0,
+            left: t.budget,
+            ..t
+        };
+        Ok((at, released))
+    }
+
+    // The place of the task that a finish names, and the task with its job ended: 21, 17, 20.
+    fn finished(&self, number: u64) -> Result<(usize, Task), Rejection>
+        ensures refused { IfErr result (λ r. Operation (finish number) self.now (refusal self.now r)) }
+        ensures accepted { IfOk result (λ x. (x.0 < 64) × Operation (finish number) self.now (acceptance (with_stroke self.now (cond (eqb self.now.stroke_task x.1.number) no_stroke (stroke_in self.now))) x.0 x.1)) }
+    {
+        let at = self.spot_of(number)?;
+        let t = self.tasks[at];
+        if t.left == 0 {
+            return Err(Refusal::Quiet.at(u16::from(t.number)));
+        }
+        Ok((at, Task { left: 0, ..t }))
     }
 
     // A job of the task is released: 21, 17, 18, 19, else age 0 and ticks left e.
@@ -190,19 +180,12 @@ impl Core {
         ensures operation { Operation (release number) self result }
         ensures refused_unaltered { Unaltered self result }
     {
-        let spot = spot_of(self, number);
-        match spot {
-            Err(word) => refuse(self, word, 0),
-            Ok(at) => {
-                let t = self.tasks[at];
-                if t.age < t.period {
-                    return refuse(self, Refusal::Early, t.number as u16);
-                }
-                if 0 < t.left {
-                    return refuse(self, Refusal::Late, t.number as u16);
-                }
-                accept(self, at, with_job(t, 0, t.budget))
-            }
+        match self.released(number) {
+            Err(why) => Step::refused(self, why),
+            Ok((at, t)) => Step {
+                answer: Ok(Reply::Accepted),
+                core: self.with_task(at, t),
+            },
         }
     }
 
@@ -211,69 +194,74 @@ impl Core {
         ensures operation { Operation (finish number) self result }
         ensures refused_unaltered { Unaltered self result }
     {
-        let spot = spot_of(self, number);
-        match spot {
-            Err(word) => refuse(self, word, 0),
-            Ok(at) => {
-                let t = self.tasks[at];
-                if t.left == 0 {
-                    return refuse(self, Refusal::Quiet, t.number as u16);
-                }
-                accept(without_stroke(self, t.number), at, with_job(t, t.age, 0))
-            }
+        match self.finished(number) {
+            Err(why) => Step::refused(self, why),
+            Ok((at, t)) => Step {
+                answer: Ok(Reply::Accepted),
+                core: self.without_stroke(t.number).with_task(at, t),
+            },
         }
     }
 
+    // The task at a place has the tick, in its stroke or in one that begins; the answer is its number.
+    fn serve(&mut self, at: usize) -> u8
+        requires pending { 1 ≤ (nth self.old.tasks at).left }
+        requires room { at < 64 }
+        ensures number { result ≡ (nth self.old.tasks at).number }
+        ensures state { self.new ≡ with_stroke (changed self.old at (used (nth self.old.tasks at))) (stroke_ticked (stroke_in self.old) (nth self.old.tasks at)) }
+    {
+        let t = self.tasks[at];
+        self.tasks[at] = Task {
+            left: t.left - 1,
+            ..t
+        };
+        let left = ticks_after(self.stroke_left, t);
+        let task = if left == 0 { 0 } else { t.number };
+        self.stroke_left = left;
+        self.stroke_task = task;
+        t.number
+    }
+
     // One tick passes: 21, else the stroke's task, or outside a stroke the first pending task, has one tick less left, and every age rises by
-    // one, up to its period. One pass tests the form, makes the marks and the ages; a function for each would be handed the state by value, and
-    // copy it.
+    // one, up to its period. One pass tests the form, sets the marks and the ages. It goes by index over the copy: an iterator over the tasks of
+    // `self` costs one more copy of the state and stores every field of a task, 1.1 of the time.
     pub fn tick(self) -> Step
         ensures operation { Operation tick self result }
         ensures refused_unaltered { Unaltered self result }
         ensures serves { Serves self result }
     {
-        let count = self.count;
-        if 64 < count {
-            return refuse(self, Refusal::Foreign, 0);
+        if 64 < self.count {
+            return Step::refused(self, Refusal::Foreign.at(0));
         }
-        let own = self.stroke_task;
-        let left = self.stroke_left;
         let mut next = self;
         let mut pending = [0; 64];
-        let mut pass = form::begun();
-        let mut i = 0;
-        while i < count {
+        let mut pass = Pass::new(self.stroke_task, self.stroke_left);
+        for i in 0..self.count {
             let t = next.tasks[i];
-            if form::breaks(pass, t) {
-                return refuse(self, Refusal::Foreign, 0);
+            if pass.breaks(t) {
+                return Step::refused(self, Refusal::Foreign.at(0));
             }
-            pass = form::after(pass, t, i, own, left);
+            pass = pass.after(i, t);
             pending[i] = marks::mark(t);
-            let later = aged(t);
-            next.tasks[i] = later;
-            i += 1;
+            next.tasks[i] = aged(t);
         }
-        if form::ends_foreign(pass, count, own, left) {
-            return refuse(self, Refusal::Foreign, 0);
+        if pass.ends_foreign(self.count) {
+            return Step::refused(self, Refusal::Foreign.at(0));
         }
-        let mut first = marks::first_marked(&pending, count);
-        if 0 < left {
-            first = pass.place;
-        }
-        if count <= first {
+        let first = if 0 < self.stroke_left {
+            pass.place
+        } else {
+            marks::first_marked(&pending, self.count)
+        };
+        if self.count <= first {
             return Step {
                 answer: Ok(Reply::Idle),
                 core: next,
             };
         }
-        let t = next.tasks[first];
-        let used = with_job(t, t.age, t.left - 1);
-        next.tasks[first] = used;
-        let rest = ticks_after(left, t);
-        next.stroke_left = rest;
-        next.stroke_task = stroke_number(t.number, rest);
+        let number = next.serve(first);
         Step {
-            answer: Ok(Reply::Served(t.number)),
+            answer: Ok(Reply::Served(number)),
             core: next,
         }
     }

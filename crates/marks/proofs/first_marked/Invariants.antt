@@ -1,9 +1,7 @@
-use Prim.Native.Nat.{◌*◌, ◌-◌, ◌+◌, ◌≤◌}
-use Rattle.marks.proofs.Gathering.{Sought}
+use Prim.Native.Nat.{◌*◌}
+use Rattle.fit.proofs.Finds.{Searched}
+use Rattle.marks.specs.Words.{marked}
 use Rattle.marks.proofs.first_marked.Given as goal
 
 abbrev pub invariant-loop-g : goal.invariant-loop-g
-invariant-loop-g l = (8 * l.g ≤ l.most + 7) × Sought l.marks l.g
-
-abbrev pub decreases-loop-g : goal.decreases-loop-g
-decreases-loop-g l = l.most - 8 * l.g
+invariant-loop-g l = Searched marked (8 * l.g) l.marks
