@@ -23,7 +23,7 @@ use Rattle.views.specs.Renamed.{Renamed}
 use Rattle.timing.specs.declared.Task.{Task}
 use Rattle.timing.specs.Serving.{no_task}
 use Rattle.state.specs.declared.Core.{Core}
-use Rattle.dispatcher.specs.Starts.{fresh_task, fresh_tasks, state_of}
+use Rattle.dispatcher.specs.Starts.{fresh_tasks, state_of}
 use Rattle.timing.specs.Calls.{no_stroke}
 use Rattle.state.specs.State.{stroke_in}
 use Rattle.state.specs.Steps.{changed}

@@ -124,16 +124,27 @@ module _ (s : List ℕ) (k : ℕ) (v : Result Counts (Rejection ℕ)) (e : outco
       let o = sym (ap outcome_of x) ∙ e in
       record { answer = rw (q, ← o); core = rw (q, ← o) y }
 
-  module _ (n c : ℕ) (x : v ≡ Ok (record { tasks = n; cores = c })) where
+  module _ (a : Counts) (x : v ≡ Ok a) (m : ℕ) (j : m ≡ a.cores) where
+    abbrev n : ℕ
+    n = a.tasks
+
+    abbrev c : ℕ
+    c = a.cores
+
     passed : verdict s ≡ verdict.accepted n c
     passed = sym e ∙ ap outcome_of x
 
     -- 9
-    pub sheet_no_core : (w : Rejection ℕ) (z : Core) (r : Step) → c ≤ k → w ≡ record { word = NoCore; place = 0 } → z ≡ state_of [] → r ≡ refusal z w → SheetStart s k r
+    pub sheet_no_core : (w : Rejection ℕ) (z : Core) (r : Step) → m ≤ k → w ≡ record { word = NoCore; place = 0 } → z ≡ state_of [] → r ≡ refusal z w → SheetStart s k r
     unfolding sheet_answer sheet_state
-    sheet_no_core w z r h m y q = record { answer = rw (q, m, passed, le-ltb k c h); core = rw (q, passed, le-ltb k c h) y }
+    sheet_no_core w z r h o y q =
+        let past : ltb k c ≡ false = le-ltb k c (rw j at h) in
+        record { answer = rw (q, o, passed, past); core = rw (q, passed, past) y }
 
-    module _ (h : k < c) where
+    module _ (i : k < m) where
+      h : k < c
+      h = rw j at i
+
       accepted_core : CoreOf s n c k
       accepted_core = core_of s n c k passed h
 

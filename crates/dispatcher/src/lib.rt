@@ -33,6 +33,7 @@ fn fresh(period: u16, budget: u16, stroke: u8, number: u8) -> Task
 }
 
 // The state without tasks: its places have zeros.
+#[tactic(auto, unfolding(crate::specs::Starts::state_of))]
 fn empty() -> Core
     ensures { result ≡ state_of [] }
 {
@@ -86,7 +87,10 @@ fn of_list(list: &[u8], n: u8) -> Core
     ensures { result ≡ state_of (fresh_tasks (job_period list.now) (job_budget list.now) (λ i. 1) (order_by Period (job_period list.now) n)) }
 {
     let order = jobs::in_order(By::Period, list, n);
-    state_by(&order, |j| fresh(jobs::period(list, j), jobs::budget(list, j), 1, j))
+    state_by(
+        &order,
+        |j| fresh(jobs::period(list, j), jobs::budget(list, j), 1, j),
+    )
 }
 
 // Starts a core from a sheet of any version and a core number: 1 to 14, 23 and 25, then 9 where there is no such core, else its fresh state.

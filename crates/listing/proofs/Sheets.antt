@@ -2,14 +2,12 @@
 -- Assumes nothing.
 use Prim.Native.Nat.{ℕ, ◌+◌, ◌-◌, ◌*◌, ◌≤◌, ◌<◌, min}
 use mathlib.Core.Path.{◌≡◌, sym, ap, ap₂, subst, ◌∙◌}
-use mathlib.Core.Bool.{Bool, true, false, cond}
+use mathlib.Core.Bool.{Bool}
 use mathlib.Core.List.{List, ◌++◌}
 use native.Mathlib.Omega.{arith}
 use native.Mathlib.Nat.{zero-add}
 use borrow.Author.Tests.{lt-ltb, le-ltb}
-use lib.Dec.{ltb}
-use lib.ListN.{length, take, drop, length-append, length-drop}
-use lib.Seq.{length-take-le}
+use lib.ListN.{length, take, drop, length-drop}
 use Rattle.sheet.specs.Refusals.{number_of}
 use Rattle.sheet.specs.Numbers.{word}
 use Rattle.sheet.specs.Records.{Figures, figures_with, task_count, core_count}
@@ -28,7 +26,7 @@ use Rattle.checker.proofs.Views.{agree_fits, position_in, sheet_renamed, views_f
 use Rattle.fit.proofs.Lists.{part}
 use Rattle.listing.specs.Listing.{header_line, task_line, core_line, sheet_text, refused_line, text_of, listing_of}
 use Rattle.listing.specs.Steps.{IsLine, Put, Capped}
-use Rattle.listing.specs.Answers.{written, refused, listed, holding, answer_of}
+use Rattle.listing.specs.Answers.{written, refused, listed, holding}
 use Rattle.listing.proofs.Writing.{put_join}
 use Rattle.listing.proofs.Agree.{cores_renamed, tasks_agree}
 
@@ -169,18 +167,3 @@ module _ (s out new : List ℕ) (f : Result Counts (Rejection ℕ)) (after : ℕ
 
     pub accepted_out : Capped 8192 out 0 (sheet_text (word s 3) (figures s)) new after → (written after ≡ listed s out) × (new ≡ holding s out)
     accepted_out p = written_out _ (accepted_text s counts.tasks counts.cores is_accepted_lem) p.put
-
--- a text that is written lies within its buffer, and that front of it is as long
-module _ (s out new : List ℕ) (r : Result ℕ (Rejection ℕ)) (x : ℕ) (q : r ≡ Ok x) (e : answer_of r ≡ listed s out) (b : new ≡ holding s out) (k : length new ≡ length out) where
-  pub listed_room : x ≤ length new
-  unfolding listed holding over
-  listed_room = by (ltb (length out) 8192) (ap answer_of (sym q) ∙ e) b
-    where
-      by : (t : Bool) → written x ≡ cond t (refused 16 0) (written (length (listing_of s))) → new ≡ cond t out (listing_of s ++ drop (length (listing_of s)) out) → x ≤ length new
-      by true e b = cc
-      by false e b =
-          let w : x ≡ length (listing_of s) = cc in
-          omega (arith, simp length-append at (ap length b))
-
-  pub listed_front : x ≡ length (take x new)
-  listed_front = sym (length-take-le x new listed_room)

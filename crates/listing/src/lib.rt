@@ -1,7 +1,7 @@
 // The listing of a sheet: the text of any bytes, written into a lent buffer (docs/SHEET.md, section 8).
 #![tactic(auto)]
 
-ghost use Rattle.std.specs.Prelude.{◌≡◌, ℕ, ◌+◌, ◌*◌, ◌<◌, ◌≤◌, ◌++◌, min, length};
+ghost use Rattle.std.specs.Prelude.{◌≡◌, ℕ, ◌+◌, ◌*◌, ◌<◌, ◌≤◌, ◌++◌, min, length, IfOk};
 ghost use Rattle.sheet.specs.Numbers.{word};
 ghost use Rattle.sheet.specs.Records.{period_at};
 ghost use Rattle.sheet.specs.Views.{renumbered, figures, figures_by};
@@ -193,7 +193,8 @@ fn put_sheet(out: &mut [u8], sheet: &[u8], n: u8, c: u8) -> usize
 // Lists a sheet: puts the text of any bytes at the front of an output of at least 8,192 bytes, which is enough for every text, and returns the
 // length of the text.
 pub fn list_sheet(sheet: &[u8], out: &mut [u8]) -> Result<u16, Rejection>
-    ensures { (answer_of result ≡ listed sheet.now out.old) × (out.new ≡ holding sheet.now out.old) }
+    ensures listed { (answer_of result ≡ listed sheet.now out.old) × (out.new ≡ holding sheet.now out.old) }
+    ensures inside { IfOk result (λ n. n ≤ length out.new) }
 {
     if out.len() < 8192 {
         return Err(Refusal::Tight.at(0));

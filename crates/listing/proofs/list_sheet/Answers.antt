@@ -2,11 +2,11 @@ use Rattle.listing.proofs.Sheets.{tight_out, refused_out, accepted_out}
 use Rattle.listing.proofs.list_sheet.Goals as goal
 use Rattle.listing.proofs.list_sheet.Goals.{in-Err, in-Ok}
 
-pub returns-then-out-lt8192 : goal.returns-then-out-lt8192
-returns-then-out-lt8192 c = rw c.at.ensures (tight_out _ _ c.if-out-lt8192.true)
+pub returns-then-out-lt8192-clause-listed : goal.returns-then-out-lt8192-clause-listed
+returns-then-out-lt8192-clause-listed c = rw c.at.ensures (tight_out _ _ c.if-out-lt8192.true)
 
-pub returns : goal.returns
-returns c =
+pub returns-clause-listed : goal.returns-clause-listed
+returns-clause-listed c =
     elim c.match-check.branch [
       | in-Err w ↦ rw (w.out-is, w.length-is) (refused_out _ _ _ _ _ c.if-out-lt8192.false c.check.ensures _ _ _ _ w.in-Err.is w.from.ensures w.refused_line.ensures (rw w.deref.ensures.0 at w.put-length.ensures))
       | in-Ok w ↦ rw (w.out-is, w.length-is) (accepted_out _ _ _ _ _ c.if-out-lt8192.false c.check.ensures _ w.in-Ok.is w.put_sheet-length.ensures)
