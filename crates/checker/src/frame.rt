@@ -13,7 +13,7 @@ use sheet::{Refusal, Rejection};
 // Rules 1 to 5.
 
 // Whether a sheet begins with the letters T S H.
-pub fn is_marked(sheet: &[u8]) -> bool
+fn is_marked(sheet: &[u8]) -> bool
     ensures { result ≡ is_marked sheet.now }
 {
     sheet.starts_with(b"TSH")

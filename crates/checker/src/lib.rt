@@ -15,7 +15,6 @@ ghost use Rattle.checker.specs.Accepted.{Framed};
 ghost use Rattle.checker.specs.Rules.{part_rows, rules};
 ghost use Rattle.checker.specs.Verdict.{verdict, outcome_of};
 
-pub use frame::is_marked;
 use sheet::{Records, Rejection};
 
 // The counts of a sheet.

@@ -3,7 +3,7 @@
 -- Assumes nothing.
 use Prim.Native.Nat.{ℕ, ◌-◌, ◌*◌, ◌/◌, ◌≤◌, ◌<◌}
 use mathlib.Core.Path.{◌≡◌, sym, ap, subst, subst₂, ◌∙◌, refl}
-use Rattle.std.specs.Prelude.{None, Option, Some}
+use Rattle.std.specs.Prelude.{None, Option, Some, Result, Ok, Err}
 use mathlib.Core.List.{List, []}
 use native.Mathlib.Omega.{arith}
 use lib.ListN.{length, take, drop, length-append, length-replicate, length-drop}
@@ -13,19 +13,16 @@ use mir.Val.{Fits}
 use mir.Syntax.{w8}
 use mathlib.Core.Bool.{Bool, true, false, cond}
 use lib.Dec.{ltb}
-use Rattle.sheet.specs.declared.Refusal.{Refusal}
 use Rattle.sheet.specs.declared.Refusal.TheVariants.{Core as NoCore}
-use Rattle.sheet.specs.declared.Finding.{Finding}
-use Rattle.sheet.specs.declared.Finding.TheVariants.{Clear, Broken}
-use Rattle.sheet.specs.Table.{scan, finding_of, Refused}
+use Rattle.sheet.specs.declared.Rejection.{Rejection}
+use Rattle.sheet.specs.Table.{scan, refusal_of, Refused}
 use Rattle.sheet.specs.Records.{period_at, budget_at}
 use Rattle.sheet.specs.Views.{is_grouped, is_stroked, stroke_of_position, number_of_position, positioned_in, by_position, figures}
 use Rattle.fit.specs.declared.By.TheVariants.{Period}
 use Rattle.fit.specs.Ring.{order_by}
 use Rattle.fit.proofs.Priority.{order_members, order_count, order_rising}
 use Rattle.fit.proofs.Lists.{part, each_of}
-use Rattle.checker.specs.declared.Verdict.{Verdict}
-use Rattle.checker.specs.declared.Verdict.TheVariants.{Accepted as Passed, Refused as Rejected}
+use Rattle.checker.specs.declared.Counts.{Counts}
 use Rattle.fit.specs.Lists.{Each}
 use Rattle.fit.specs.Cores.{order_on, within_on}
 use Rattle.checker.specs.Verdict.{verdict, outcome_of}
@@ -40,7 +37,7 @@ use Rattle.timing.specs.OnTime.{OnTime}
 use Rattle.timing.specs.Serving.{ByHistory}
 use Rattle.state.specs.declared.Core.{Core}
 use Rattle.state.specs.declared.Step.{Step}
-use Rattle.state.specs.declared.Answer.TheVariants.{Accepted}
+use Rattle.state.specs.declared.Reply.TheVariants.{Accepted}
 use Rattle.timing.specs.Strokes.{StateForm, Unbroken, GoesOn, FreeAgain}
 use Rattle.timing.proofs.Plain.{plain, plain_form}
 use Rattle.state.specs.State.{tasks_of, state_in, InForm}
@@ -116,27 +113,38 @@ core_by_history s n c k h cs =
     each_of _ (λ j x. subst₂ (ByHistory ((figures s).period j) j) (sym (core_log_lem s n c k h cs)) (sym (ask_run (release j) cs z f.places f.form ∙ ap (λ t. answer (release j) (run next t cs)) (state_plain (sheet_tasks s k)))) x) (schedule_by_history _ _ _ _ _ _ _ h.schedulable cs)
 
 -- a refused start promises nothing on time
-pub refused_timely : (s : List ℕ) (k : ℕ) (z : Core) (w : Refusal) (p : ℕ) (r : Step) → r ≡ refusal z w p → Timely s k r
-refused_timely s k z w p r q = record { on_time = λ a. absurd (let n : ◌≡◌ {A = ℕ} 0 1 = cc in omega arith) }
+pub refused_timely : (s : List ℕ) (k : ℕ) (z : Core) (w : Rejection ℕ) (r : Step) → r ≡ refusal z w → Timely s k r
+refused_timely s k z w r q = record { on_time = λ a. absurd (let n : ◌≡◌ {A = ℕ} 0 1 = cc in omega arith) }
 
-module _ (s : List ℕ) (k : ℕ) (v : Verdict) (e : outcome_of v ≡ verdict s) where
+module _ (s : List ℕ) (k : ℕ) (v : Result Counts (Rejection ℕ)) (e : outcome_of v ≡ verdict s) where
   -- 1 to 14, 23 and 25
-  pub sheet_refused : (w : Refusal) (p : ℕ) (z : Core) (r : Step) → v ≡ Rejected w p → z ≡ state_of [] → r ≡ refusal z w p → SheetStart s k r
+  pub sheet_refused : (w : Rejection ℕ) (z : Core) (r : Step) → v ≡ Err w → z ≡ state_of [] → r ≡ refusal z w → SheetStart s k r
   unfolding sheet_answer sheet_state
-  sheet_refused w p z r x y q =
+  sheet_refused w z r x y q =
       let o = sym (ap outcome_of x) ∙ e in
       record { answer = rw (q, ← o); core = rw (q, ← o) y }
 
-  module _ (n c : ℕ) (x : v ≡ Passed n c) where
+  module _ (a : Counts) (x : v ≡ Ok a) (m : ℕ) (j : m ≡ a.cores) where
+    abbrev n : ℕ
+    n = a.tasks
+
+    abbrev c : ℕ
+    c = a.cores
+
     passed : verdict s ≡ verdict.accepted n c
     passed = sym e ∙ ap outcome_of x
 
     -- 9
-    pub sheet_no_core : (z : Core) (r : Step) → c ≤ k → z ≡ state_of [] → r ≡ refusal z NoCore 0 → SheetStart s k r
+    pub sheet_no_core : (w : Rejection ℕ) (z : Core) (r : Step) → m ≤ k → w ≡ record { word = NoCore; place = 0 } → z ≡ state_of [] → r ≡ refusal z w → SheetStart s k r
     unfolding sheet_answer sheet_state
-    sheet_no_core z r h y q = record { answer = rw (q, passed, le-ltb k c h); core = rw (q, passed, le-ltb k c h) y }
+    sheet_no_core w z r h o y q =
+        let past : ltb k c ≡ false = le-ltb k c (rw j at h) in
+        record { answer = rw (q, o, passed, past); core = rw (q, passed, past) y }
 
-    module _ (h : k < c) where
+    module _ (i : k < m) where
+      h : k < c
+      h = rw j at i
+
       accepted_core : CoreOf s n c k
       accepted_core = core_of s n c k passed h
 
@@ -162,24 +170,24 @@ module _ (s : List ℕ) (k : ℕ) (v : Verdict) (e : outcome_of v ≡ verdict s)
             ∙ rw (part s 8, g, d, accepted_core.tasks, accepted_core.cores)
             (ap state_of (sym (fresh_renamed (by_position s) (figures s) (number_of_position (is_grouped s) (drop 8 s)) accepted_core.views k)))
 
-        pub sheet_starts : SheetStart s k (record { answer = Accepted; core = y })
+        pub sheet_starts : SheetStart s k (record { answer = Ok Accepted; core = y })
         unfolding sheet_answer sheet_state
         sheet_starts = record { answer = rw (passed, lt-ltb k c h); core = rw (passed, lt-ltb k c h) fresh }
 
-        pub sheet_timely : Timely s k (record { answer = Accepted; core = y })
+        pub sheet_timely : Timely s k (record { answer = Ok Accepted; core = y })
         sheet_timely = record { on_time = λ a cs. subst (λ z. Kept s k z cs) (sym fresh) (core_kept s n c k accepted_core cs) }
 
-module _ (l : List ℕ) (f : Finding) (e : finding_of f ≡ scan (list_rows 0 l)) where
+module _ (l : List ℕ) (f : Result (Unit {0}) (Rejection ℕ)) (e : refusal_of f ≡ scan (list_rows 0 l)) where
   -- 5, 4, 7 and 8
-  pub list_refused : (w : Refusal) (p : ℕ) (z : Core) (r : Step) → f ≡ Broken w p → z ≡ state_of [] → r ≡ refusal z w p → ListStart l r
+  pub list_refused : (w : Rejection ℕ) (z : Core) (r : Step) → f ≡ Err w → z ≡ state_of [] → r ≡ refusal z w → ListStart l r
   unfolding list_answer list_state
-  list_refused w p z r x y q =
-      let o = sym (ap finding_of x) ∙ e in
+  list_refused w z r x y q =
+      let o = sym (ap refusal_of x) ∙ e in
       record { answer = rw (q, ← o); core = rw (q, ← o) y }
 
-  module _ (x : f ≡ Clear) where
+  module _ (x : f ≡ Ok tt) where
     clear : None ≡ scan (list_rows 0 l)
-    clear = sym (ap finding_of x) ∙ e
+    clear = sym (ap refusal_of x) ∙ e
 
     pub list_few : length l / 4 ≤ 64
     unfolding job_count
@@ -189,7 +197,7 @@ module _ (l : List ℕ) (f : Finding) (e : finding_of f ≡ scan (list_rows 0 l)
     list_fits = omega (arith, list_few)
 
     -- the fresh state of the list
-    pub list_starts : (y : Core) → y ≡ state_of (fresh_tasks (job_period l) (job_budget l) (λ i. 1) (order_by Period (job_period l) (length l / 4))) → ListStart l (record { answer = Accepted; core = y })
+    pub list_starts : (y : Core) → y ≡ state_of (fresh_tasks (job_period l) (job_budget l) (λ i. 1) (order_by Period (job_period l) (length l / 4))) → ListStart l (record { answer = Ok Accepted; core = y })
     unfolding list_answer list_state job_count
     list_starts y q = record { answer = rw (← clear); core = rw (← clear) q }
 

@@ -1,16 +1,11 @@
 -- The search for a power, step by step as the code goes.
 -- Assumes nothing.
-use Prim.Native.Nat.{ℕ, suc, ◌-◌, ◌*◌, ◌^◌, ◌≤◌, ◌<◌, zero-le}
-use mathlib.Core.Path.{◌≡◌, refl, sym, ap, ◌∙◌}
-use native.Mathlib.Nat.{mul-one, one-mul, mul_assoc, pow-zero, pow-suc, mul-le-mul, mul-le-mul_left, mul-le-mul_right, mul-pos, le_trans}
+use Prim.Native.Nat.{ℕ, suc, ◌-◌, ◌*◌, ◌^◌, ◌≤◌, ◌<◌}
+use mathlib.Core.Path.{◌≡◌, sym, ap, ◌∙◌}
+use native.Mathlib.Nat.{mul-one, one-mul, mul_assoc, pow-suc, mul-le-mul_left, mul-le-mul_right, mul-pos}
 use native.Mathlib.Omega.{arith}
-use mir.Syntax.{w64}
-use mir.Val.{Fits}
 use Rattle.figures.specs.Constructions.{Power, least_power, largest_power}
 use Rattle.figures.proofs.Powers.{least_unique, largest_unique, least_power_lem, largest_power_lem, least_more, largest_end, power_positive}
-
-times_fits : (x b : ℕ) → x ≤ 32400000000 → b ≤ 3 → Fits w64 (x * b)
-times_fits x b h k = let m : x * b ≤ 32400000000 * 3 = mul-le-mul h k in record { fits = omega arith }
 
 twice : (x b : ℕ) → 2 ≤ b → x * 2 ≤ x * b
 twice x b h = mul-le-mul_left x h
@@ -22,21 +17,12 @@ pub record Reach (b q p m r : ℕ) : Type 0 where
   pub reach : r ≡ p * m
   pub least : (k : ℕ) → q ≤ p * b ^ k → exponent ≤ k
 
-pub reach_start : (b q p : ℕ) → Reach b q p 1 p
-reach_start b q p = record { exponent = 0; power = sym (pow-zero b); reach = sym (mul-one p); least = λ k h. zero-le }
-
 module _ (b q p m r : ℕ) (two : 2 ≤ b) (three : b ≤ 3) (high : q ≤ 60000) (pos : 1 ≤ p) (s : Reach b q p m r) where
   small : m ≤ r
   small = let h : 1 * m ≤ p * m = mul-le-mul_right m pos in rw s.reach (omega (arith, one-mul m))
 
   positive : 0 < m
   positive = rw s.power (power_positive b two s.exponent)
-
-  pub reach_power_fits : r < q → Fits w64 (m * b)
-  reach_power_fits h = times_fits m b (omega (arith, small)) three
-
-  pub reach_fits : r < q → Fits w64 (r * b)
-  reach_fits h = times_fits r b (omega arith) three
 
   pub reach_less : r < q → q - r * b < q - r
   reach_less h = omega (arith, twice r b two, small, positive)
@@ -61,27 +47,7 @@ pub record Climb (b q x m n : ℕ) : Type 0 where
   pub next : n ≡ q * m * b
 
 module _ (b q x m : ℕ) (two : 2 ≤ b) (three : b ≤ 3) (pos : 1 ≤ q) (high : x ≤ 10800000000) where
-  module _ (fits : q * m ≤ x) where
-    pub product_fits : Fits w64 (q * m)
-    product_fits = record { fits = omega arith }
-
-    pub next_fits : Fits w64 (q * m * b)
-    next_fits = times_fits (q * m) b (omega arith) three
-
-    pub climb_start : Power b m → Climb b q x m (q * m * b)
-    climb_start p = record { power = p; fits = fits; next = refl }
-
   module _ (n : ℕ) (s : Climb b q x m n) where
-    pub climb_power_fits : Fits w64 (m * b)
-    climb_power_fits =
-        let low : 1 * m ≤ q * m = mul-le-mul_right m pos in
-        times_fits m b (omega (arith, one-mul m, s.fits)) three
-
-    pub climb_fits : Fits w64 (n * b)
-    climb_fits =
-        let reach : n ≤ 32400000000 = rw s.next (mul-le-mul {n₂ = 10800000000} {m₂ = 3} (le_trans s.fits high) three) in
-        times_fits n b reach three
-
     climb_positive : 0 < n
     unfolding Power
     climb_positive =

@@ -13,11 +13,10 @@ use mir.Val.{Fits}
 use Rattle.fit.specs.Lists.{at, padded}
 use Rattle.figures.specs.Constructions.{down, downs, dct}
 use Rattle.figures.specs.Meaning.{SortedPeriods, DctPeriods, Sound}
-use Rattle.figures.specs.Steps.{Ready}
 use Rattle.figures.specs.Answers.{written}
 use Rattle.figures.proofs.Lists.{at_map}
 use Rattle.figures.proofs.Sound.{divisor_bound, factors_at, factors_bound, factors_length}
-use Rattle.figures.proofs.Ranges.{periods, pivot_low, pivot_high, period_low, period_high}
+use Rattle.figures.proofs.Ranges.{Ready, periods, pivot_low, pivot_high, period_low, period_high}
 use Rattle.figures.proofs.DctLaws.{dct_sound, dct_periods, down_positive, down_bound, downs_length, downs_positive}
 use Rattle.fit.proofs.Lists.{at_padded, padded_length}
 use Rattle.fit.proofs.Filling.{Filled, filled_start, filled_turn, filled_end}
@@ -133,8 +132,9 @@ module _ (ds : List ℕ) (c d i : ℕ) (array : List ℕ) (size : length ds ≡ 
       ap₂ (λ x y. x / y) s.first (sym (get_or-take (c + 1) ds i 0 (omega arith))) ∙ sym (at_map (λ x. at ds 0 / x) (take (c + 1) ds) i inside) in
       record { first = s.first; filled = filled_turn _ array i (d / at ds i) (rw lower_length (omega arith)) (rw lower_length (omega arith)) value s.filled }
 
-  pub lower_end : c < i → array ≡ padded (map (λ x. at ds 0 / x) (take (c + 1) ds))
-  lower_end h = filled_end _ array i (rw lower_length (omega arith)) s.filled
+  -- the last of them
+  pub lower_end : i ≡ c → set array i (d / at ds i) ≡ padded (map (λ x. at ds 0 / x) (take (c + 1) ds))
+  lower_end h = filled_end _ _ (i + 1) (rw lower_length (omega arith)) (lower_turn (omega arith)).filled
 
 -- the first i factors are in the array, and m is the last of them
 pub record UpperLoop (ps : List ℕ) (c d q : ℕ) (array : List ℕ) (m i : ℕ) : Type 0 where

@@ -45,9 +45,6 @@ module _ (es ms : List ℕ) (d : ℕ) (u : Usable d ms (length es)) where
     unfolding sum numbers load_to
     load_start = record { divisor = u.divisor; high = last_high; bound = limit_high; light = zero-le; same = refl }
 
-  pub factor_positive : (i : ℕ) → i < length es → 1 ≤ at ms i
-  factor_positive i h = (u.factors i h).0
-
 -- a longer sum is no smaller
 sum_more : (g : ℕ → ℕ) (i j : ℕ) → sum g (numbers 0 i) ≤ sum g (numbers 0 (i + j))
 sum_more g i zero = rw (add-zero i) (le_refl _)

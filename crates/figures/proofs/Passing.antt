@@ -3,9 +3,9 @@
 use Prim.Native.Nat.{ℕ, zero, suc, ◌+◌, ◌*◌, ◌/◌, ◌≤◌, ◌<◌, zero-le}
 use mathlib.Core.Path.{◌≡◌, refl, sym, ap, ap₂, subst, ◌∙◌}
 use mathlib.Core.Logic.{⊎_elim}
-use mathlib.Core.Bool.{Bool, true, false, cond, ◌&&◌, true≢false, false≢true}
+use mathlib.Core.Bool.{Bool, true, false, cond, ◌&&◌}
 use Rattle.std.specs.Prelude.{Option, None, Some}
-use Rattle.sheet.proofs.Options.{some-injective, none-ne-some}
+use Rattle.sheet.proofs.Options.{some-injective, some-ne-none, none-ne-some}
 use mathlib.Core.List.{List, [], ◌∷◌, map}
 use native.Mathlib.Nat.{zero-add, mul-one, le_refl}
 use native.Mathlib.Omega.{arith}
@@ -17,7 +17,7 @@ use Rattle.fit.specs.Lists.{numbers, sum, select, Each, EachPair, at}
 use Rattle.fit.specs.Priority.{Above}
 use Rattle.fit.specs.Fits.{stretched, Multiples, last_factor, load, overloaded}
 use Rattle.fit.proofs.Lists.{each_append, each_both, each_select, selected_pass}
-use Rattle.figures.specs.declared.Outcome.{Outcome}
+use Rattle.figures.specs.declared.CoreFigures.{CoreFigures}
 use Rattle.figures.specs.Constructions.{Acceleration, least_power, largest_power, sr, dct}
 use Rattle.figures.specs.Meaning.{SortedPeriods, Factors, Sound}
 use Rattle.figures.specs.Passing.{passes, first, each_pivot, in_range, trials, sorted_periods, task_set, first_passing}
@@ -158,13 +158,11 @@ alone p e pos high fits =
     let light : ltb (p * 1) (e * 1 * 1 + 0) ≡ false = le-ltb (p * 1) (e * 1 * 1 + 0) (omega (arith, mul-one p, mul-one (e * 1), mul-one e)) in
     rw (le-leb 1 p pos, le-leb p 60000 high, factor, divisor, light)
 
--- the code's answer that a set passes comes with the figures
-pub outcome_passes : (o : Outcome) (x : Option Acceleration) → o ≡ outcome x → o.passes ≡ true → (a : Acceleration) × (x ≡ Some a) × (o.figures ≡ written a)
-unfolding outcome
-outcome_passes o None e h = absurd (false≢true (sym (ap (λ t. t.passes) e) ∙ h))
-outcome_passes o (Some a) e h = (a, refl, ap (λ t. t.figures) e)
+-- the code's answer comes with the figures, or nothing passes
+pub outcome_some : (f : CoreFigures) (x : Option Acceleration) → Some f ≡ outcome x → (a : Acceleration) × (x ≡ Some a) × (f ≡ written a)
+outcome_some f None e = absurd (some-ne-none f e)
+outcome_some f (Some a) e = (a, refl, some-injective f (written a) e)
 
-pub outcome_fails : (o : Outcome) (x : Option Acceleration) → o ≡ outcome x → o.passes ≡ false → x ≡ None
-unfolding outcome
-outcome_fails o None e h = refl
-outcome_fails o (Some a) e h = absurd (true≢false (sym (ap (λ t. t.passes) e) ∙ h))
+pub outcome_none : (x : Option Acceleration) → None ≡ outcome x → x ≡ None
+outcome_none None e = refl
+outcome_none (Some a) e = absurd (none-ne-some (written a) e)

@@ -2,13 +2,23 @@
 -- Assumes nothing.
 use Prim.Native.Nat.{ℕ, ◌≤◌, ◌<◌}
 use mathlib.Core.Path.{◌≡◌}
+use mathlib.Core.Bool.{true}
 use mathlib.Core.List.{List}
 use native.Mathlib.Omega.{arith}
 use lib.ListN.{length}
 use Rattle.fit.specs.Lists.{at}
 use Rattle.figures.specs.Meaning.{SortedPeriods}
-use Rattle.figures.specs.Steps.{Ready}
+use Rattle.figures.specs.Passing.{sorted_periods}
 use Rattle.figures.proofs.Sound.{sorted_test, sorted_at}
+
+-- at most 64 periods in priority order, and the place of one of them
+pub record Ready (ps : List ℕ) (i : ℕ) : Type 0 where
+  pub size : length ps ≤ 64
+  pub order : sorted_periods 1 ps ≡ true
+  pub inside : i < length ps
+
+pub ready : (ps : List ℕ) (i : ℕ) → length ps ≤ 64 → sorted_periods 1 ps ≡ true → i < length ps → Ready ps i
+ready ps i h e k = record { size = h; order = e; inside = k }
 
 module _ (ps : List ℕ) (c : ℕ) (r : Ready ps c) where
   pub periods : SortedPeriods 1 ps
@@ -33,4 +43,4 @@ module _ (ps : List ℕ) (c : ℕ) (r : Ready ps c) where
   pub pivot_high : (x : ℕ) → x ≡ at ps c → x ≤ 60000
   pivot_high x e = period_high x c r.inside e
 
-pub ruleset ranges = (period_low, period_high, first_low, first_high, pivot_low, pivot_high)
+pub ruleset ranges = (ready, period_low, period_high, first_low, first_high, pivot_low, pivot_high)

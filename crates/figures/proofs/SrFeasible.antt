@@ -4,18 +4,18 @@ use Prim.Native.Nat.{ℕ, ◌+◌, ◌-◌, ◌*◌, ◌/◌, ◌≤◌, ◌<◌
 use mathlib.Core.Path.{◌≡◌, refl, sym, ap, ◌∙◌}
 use mathlib.Core.Bool.{Bool, true, false, ◌&&◌}
 use mathlib.Core.List.{List}
-use native.Mathlib.Nat.{pow-zero, mul-le-mul, mul-le-mul_right, le_trans}
+use native.Mathlib.Nat.{pow-zero, le_trans}
 use native.Mathlib.Omega.{arith}
 use lib.ListN.{length}
-use mir.Syntax.{w32, w64}
+use mir.Syntax.{w64}
 use mir.Val.{Fits}
 use Rattle.fit.specs.Lists.{at}
 use Rattle.figures.specs.Constructions.{Acceleration, Power, least_power, largest_power, sr}
 use Rattle.figures.specs.Meaning.{Sound}
 use Rattle.figures.specs.Passing.{passes, in_range}
-use Rattle.figures.specs.Steps.{Ready, Usable, feasible}
-use Rattle.figures.proofs.Sound.{factors_length, factors_at, factors_rise, factors_bound, in_range_lem, range_factors}
-use Rattle.figures.proofs.Ranges.{periods, pivot_high}
+use Rattle.figures.specs.Steps.{Usable, feasible}
+use Rattle.figures.proofs.Sound.{factors_length, factors_at, factors_rise, in_range_lem, range_factors}
+use Rattle.figures.proofs.Ranges.{Ready, periods, pivot_high}
 use Rattle.figures.proofs.SrLaws.{sr_divisor}
 use Rattle.figures.proofs.LoadLoop.{LoadLoop, load_start, load_turn, load_over, load_end}
 use Rattle.figures.proofs.SrLoop.{SrLoop, sr_start, whole, limit_small_from, power_fits_from, factor_from, factor_is}
@@ -67,13 +67,6 @@ module _ (b : ℕ) (ps : List ℕ) (c q x d : ℕ) (two : 2 ≤ b) (three : b �
       size : length (sr b ps c).factors ≡ length ps
       size = factors_length _ _ 1 ps _ (whole b ps c q d 1 0 begin).factors
 
-      pub full_fits : Fits w64 (q * L)
-      full_fits =
-          let small : L < b * 60000 = rw last_is (factors_bound b ps (sr b ps c) (periods ps c r) (whole b ps c q d 1 0 begin) (length ps - 1) (omega (arith, not_empty))) in
-          let three_times : b * 60000 ≤ 180000 = mul-le-mul_right 60000 three in
-          let product : q * L ≤ 10800000000 = mul-le-mul {n₂ = 60000} {m₂ = 180000} (pivot_high ps c r q e) (omega arith) in
-          record { fits = omega arith }
-
       -- a pivot with a figure above 120,000 is skipped
       pub skip_last : (es : List ℕ) (t : ℕ) → 120000 ≤ t → t < L → false ≡ feasible es (sr b ps c)
       skip_last es t k h =
@@ -99,9 +92,6 @@ module _ (b : ℕ) (ps : List ℕ) (c q x d : ℕ) (two : 2 ≤ b) (three : b �
 module _ (b : ℕ) (ps es : List ℕ) (c q d L limit total m i : ℕ) (s : SrLoop b ps c q d m i) (l : SrLoad b ps es c q d L limit total i) where
   pub last_most : L ≤ 120000
   last_most = rw l.last l.load.high
-
-  pub last_cast : Fits w32 L
-  last_cast = record { fits = omega (arith, last_most) }
 
   pub place_inside : i < length ps → i < length es
   place_inside h = rw (← l.same) h

@@ -11,11 +11,10 @@ use mir.Val.{Fits}
 use Rattle.fit.specs.Lists.{at}
 use Rattle.figures.specs.Constructions.{Power, least_power, largest_power, sr}
 use Rattle.figures.specs.Meaning.{SortedPeriods, Multiplier, Sound}
-use Rattle.figures.specs.Steps.{Ready}
 use Rattle.figures.specs.Answers.{written}
 use Rattle.figures.proofs.Lists.{at_map}
 use Rattle.figures.proofs.Sound.{sorted_pair, divisor_bound, factors_bound}
-use Rattle.figures.proofs.Ranges.{periods, period_high}
+use Rattle.figures.proofs.Ranges.{Ready, periods, period_high}
 use Rattle.figures.proofs.SrLaws.{sr_sound, sr_multiplier}
 use Rattle.fit.proofs.Filling.{Filled, filled_turn, filled_end}
 

@@ -1,8 +1,8 @@
 -- Decimal digits: one step at a time, their value, and how many there are.
 -- Assumes nothing.
 use Prim.Native.Nat.{ℕ, zero, suc, ◌+◌, ◌*◌, ◌^◌, ◌/◌, ◌%◌, ◌≤◌, ◌<◌}
-use mathlib.Core.Path.{◌≡◌, ap, ◌∙◌}
-use mathlib.Core.List.{List, [], ◌∷◌, ◌++◌}
+use mathlib.Core.Path.{◌≡◌, sym, ap, ◌∙◌}
+use mathlib.Core.List.{List, [], ◌∷◌, ◌++◌, append_assoc}
 use native.Mathlib.Nat.{pow-suc}
 use native.Mathlib.Omega.{arith}
 use native.Mathlib.Decide.{dec_lt}
@@ -10,10 +10,10 @@ use borrow.Author.Tests.{lt-ltb, le-ltb}
 use lib.ListN.{length, length-append}
 use mir.Syntax.{w32}
 use mir.Val.{Fits}
+use Rattle.std.specs.Fmt as std
+use Rattle.std.proofs.lemmas.Fmt.{decimal_from_appends, length-decimal-le_succ}
 use Rattle.listing.specs.Decimal.{digits, decimal}
 use Rattle.listing.specs.Listing.{field}
-use Rattle.listing.specs.Steps.{Put, Capped}
-use Rattle.listing.proofs.Writing.{put_join}
 
 -- any two bounds above a number give the same digits
 digits_bound : (k m x : ℕ) → x < k → x < m → digits k x ≡ digits m x
@@ -70,39 +70,20 @@ digits_count (suc k) x h = by (dec_lt x 10) (λ q. digits_count k (x / 10) q)
         let e : 10 ^ suc (suc k) ≡ 10 ^ suc k * 10 = pow-suc 10 (suc k) in
         omega (arith, length_more x (omega (arith, q)), r (omega arith))
 
--- as the code writes them
-pub number_one : (out new : List ℕ) (at x d after : ℕ) → x < 10 → d ≡ 48 + x % 10 → Put out at (d ∷ []) new after → Put out at (decimal x) new after
-number_one out new at x d after h e p =
-    let q : d ≡ 48 + x = omega arith in
-    rw (decimal_one x h, ← q) p
-
-pub number_more : (out mid new : List ℕ) (at next x d after : ℕ) → 10 ≤ x → d ≡ 48 + x % 10 → Put mid next (d ∷ []) new after → Put out at (decimal (x / 10)) mid next → Put out at (decimal x) new after
-number_more out mid new at next x d after h e q p = rw (decimal_more x h, ← e) (put_join q p)
-
-pub number_room : (x at room : ℕ) → at + length (decimal x) ≤ room → at < room
-number_room x at room r = omega (arith, length_above x)
-
-pub number_first : (x at room : ℕ) → 10 ≤ x → at + length (decimal x) ≤ room → at + length (decimal (x / 10)) ≤ room
-number_first x at room h r = omega (arith, length_more x h)
-
-pub number_last : (out mid : List ℕ) (at next x : ℕ) → 10 ≤ x → at + length (decimal x) ≤ length out → length mid ≡ length out → Put out at (decimal (x / 10)) mid next → next < length mid
-number_last out mid at next x h r l p = omega (arith, length_more x h, p.next)
+-- they are those that std writes
+pub decimal_std : (x : ℕ) → x < 2 ^ 64 → decimal x ≡ std.decimal x
+unfolding decimal digits
+decimal_std x h =
+    let room = length-decimal-le_succ x h in
+    decimal_from_appends digits (record { one = λ k n q. rw (lt-ltb n 10 q); more = λ k n q. rw (le-ltb n 10 q) }) (suc x) x h (omega arith)
 
 -- a field, as the code writes it
 pub field_short : (text : List ℕ) (x end : ℕ) → length text ≤ 8 → Fits w32 x → length (field text x end) ≤ 19
 unfolding field
 field_short text x end h f = simp length-append (omega (arith, digits_count 9 x (omega arith)))
 
-module _ (out mid text : List ℕ) (at next x : ℕ) (h : length text ≤ 8) (f : Fits w32 x) (r : at + 19 ≤ length out) (k : length mid ≡ length out) (p : Put out at text mid next) where
-  pub field_number : next + length (decimal x) ≤ length mid
-  field_number = omega (arith, digits_count 9 x (omega arith), p.next)
-
-  module _ (mid₂ : List ℕ) (next₂ : ℕ) (k₂ : length mid₂ ≡ length mid) (q : Put mid next (decimal x) mid₂ next₂) where
-    pub field_end : next₂ < length mid₂
-    field_end = omega (arith, digits_count 9 x (omega arith), p.next, q.next)
-
-    pub field_put : (new : List ℕ) (end after : ℕ) → Put mid₂ next₂ (end ∷ []) new after → Capped 19 out at (field text x end) new after
-    unfolding field
-    field_put new end after s =
-        let w : Put out at (field text x end) new after = put_join s (put_join q p) in
-        record { put = w; cap = omega (arith, w.next, field_short text x end h f) }
+pub field_put : (line text digits named numbered new : List ℕ) (x end : ℕ) → named ≡ line ++ text → digits ≡ std.decimal x → numbered ≡ named ++ digits → new ≡ numbered ++ end ∷ [] → Fits w32 x → new ≡ line ++ field text x end
+unfolding field
+field_put line text digits named numbered new x end a b c d f =
+    let same : digits ≡ decimal x = b ∙ sym (decimal_std x (omega (arith, f.fits))) in
+    d ∙ rw (c, a, same) (simp append_assoc)

@@ -10,8 +10,8 @@ use lib.ListN.{length, take, drop}
 use mir.Syntax.{w8, w32}
 use mir.Val.{Fits}
 use Rattle.sheet.specs.Records.{Figures}
-use Rattle.fit.specs.declared.Chain.{Chain}
-use Rattle.fit.specs.declared.Chain.TheVariants.{Whole, Broken}
+use Rattle.fit.specs.declared.Break.{Break}
+use Rattle.std.specs.Prelude.{Result, Ok, Err}
 use Rattle.fit.specs.Lists.{Each, at}
 use Rattle.fit.specs.Priority.{order}
 use Rattle.fit.specs.Fits.{last_factor, load, within}
@@ -90,8 +90,8 @@ module _ (f : Figures) (periods list : List ℕ) (k a end : ℕ) (b : Begins f p
       ∙ order_ext (at periods) f.period f.core k _ p.below ∙ ap (order f.period f.core k) all
 
 -- the order of a core
-module _ (f : Figures) (k : ℕ) (list : List ℕ) (chain : Chain) (g : Fitting f) (n : f.tasks ≤ 64) (h : k < f.cores) (s : list ≡ order_on f k) (e : chain ≡ chained f.factor list) where
-  whole : chain ≡ Whole (last_factor f.factor 1 (order_on f k))
+module _ (f : Figures) (k : ℕ) (list : List ℕ) (chain : Result ℕ Break) (g : Fitting f) (n : f.tasks ≤ 64) (h : k < f.cores) (s : list ≡ order_on f k) (e : chain ≡ chained f.factor list) where
+  whole : chain ≡ Ok (last_factor f.factor 1 (order_on f k))
   unfolding chained chain_answer
   whole = e ∙ rw (s, multiples_chain f.factor 1 (order_on f k) (g.fits.simply_periodic k h))
 
@@ -100,10 +100,10 @@ module _ (f : Figures) (k : ℕ) (list : List ℕ) (chain : Chain) (g : Fitting 
   short = le_trans (order_count f.period f.core k f.tasks) n
 
   -- no chain of factors is broken
-  pub no_break : (i x : ℕ) → chain ≡ Broken i → 0 ≡ x
-  no_break i x q = absurd (let z : ◌≡◌ {A = ℕ} 0 1 = cc whole in omega arith)
+  pub no_break : (b : Break) → chain ≡ Err b → ⊥
+  no_break b q = cc whole
 
-  module _ (last : ℕ) (w : chain ≡ Whole last) where
+  module _ (last : ℕ) (w : chain ≡ Ok last) where
     is_last : last ≡ last_factor f.factor 1 (order_on f k)
     is_last = cc whole
 

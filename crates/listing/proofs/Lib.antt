@@ -7,4 +7,3 @@ pub mod Sheets
 pub mod Laws
 pub mod Length
 pub mod Long
-pub mod OneTick

@@ -1,39 +1,34 @@
 -- The text of any bytes, as the code writes it: the parts of an accepted sheet hold its figures, and each way out gives the answer.
 -- Assumes nothing.
 use Prim.Native.Nat.{ℕ, ◌+◌, ◌-◌, ◌*◌, ◌≤◌, ◌<◌, min}
-use mathlib.Core.Path.{◌≡◌, refl, sym, ap, ap₂, subst, ◌∙◌}
-use mathlib.Core.Bool.{Bool, true, false, cond}
+use mathlib.Core.Path.{◌≡◌, sym, ap, ap₂, subst, ◌∙◌}
+use mathlib.Core.Bool.{Bool}
 use mathlib.Core.List.{List, ◌++◌}
 use native.Mathlib.Omega.{arith}
 use native.Mathlib.Nat.{zero-add}
 use borrow.Author.Tests.{lt-ltb, le-ltb}
-use lib.Dec.{ltb}
-use lib.ListN.{length, take, drop, length-append, length-drop}
-use lib.Seq.{length-take-le}
+use lib.ListN.{length, take, drop, length-drop}
 use Rattle.sheet.specs.Refusals.{number_of}
 use Rattle.sheet.specs.Numbers.{word}
 use Rattle.sheet.specs.Records.{Figures, figures_with, task_count, core_count}
-use Rattle.sheet.specs.Views.{is_grouped, is_stroked, core_of_position, position_of_number, number_of_position, renumbered, by_position, figures}
-use Rattle.sheet.specs.declared.Refusal.{Refusal}
+use Rattle.sheet.specs.Views.{is_grouped, is_stroked, core_of_position, stroke_of_position, position_of_number, number_of_position, renumbered, by_position, figures}
 use Rattle.fit.specs.Lists.{numbers, at, joined, over}
 use Rattle.fit.specs.Answers.{Column}
 use Rattle.views.specs.Renamed.{Agree}
 use Rattle.views.proofs.Renamed.{agree_renamed}
-use Rattle.checker.specs.declared.Verdict.{Verdict}
-use Rattle.checker.specs.declared.Verdict.TheVariants.{Accepted, Refused as Rejected}
+use Rattle.std.specs.Prelude.{Result, Ok, Err}
+use Rattle.sheet.specs.declared.Rejection.{Rejection}
+use Rattle.checker.specs.declared.Counts.{Counts}
 use Rattle.checker.specs.Accepted.{Acceptable, Fitting}
 use Rattle.checker.specs.Verdict.{accepted, verdict, outcome_of}
 use Rattle.checker.proofs.Acceptance.{accepted_exactly}
 use Rattle.checker.proofs.Views.{agree_fits, position_in, sheet_renamed, views_fit}
 use Rattle.fit.proofs.Lists.{part}
-use Rattle.listing.specs.declared.Listed.{Listed}
-use Rattle.listing.specs.declared.Listed.TheVariants.{Written}
 use Rattle.listing.specs.Listing.{header_line, task_line, core_line, sheet_text, refused_line, text_of, listing_of}
-use Rattle.listing.specs.Steps.{Put, Capped, one_tick}
-use Rattle.listing.specs.Answers.{written, refused, listed, holding, answer_of}
+use Rattle.listing.specs.Steps.{IsLine, Put, Capped}
+use Rattle.listing.specs.Answers.{written, refused, listed, holding}
 use Rattle.listing.proofs.Writing.{put_join}
 use Rattle.listing.proofs.Agree.{cores_renamed, tasks_agree}
-use Rattle.listing.proofs.OneTick.{unbroken, unbroken_fits, unbroken_tasks, unbroken_cores}
 
 -- the text of an accepted sheet
 pub accepted_text : (s : List ℕ) (n c : ℕ) → verdict s ≡ accepted n c → listing_of s ≡ sheet_text (word s 3) (figures s)
@@ -59,39 +54,39 @@ module _ (s : List ℕ) (n c : ℕ) (v : verdict s ≡ accepted n c) where
   pub sheet_long : 8 ≤ length s
   sheet_long = omega (arith, good.frame.size)
 
-  pub tasks_long : 10 * n ≤ length (take (length s - 8) (drop 8 s))
-  tasks_long = rw (part s 8, length-drop 8 s, tasks_same) (omega (arith, good.frame.size))
-
   -- the parts of the sheet that hold its records
   abbrev tasks : List ℕ
   tasks = take (length s - 8) (drop 8 s)
 
-  abbrev cores : List ℕ
-  cores = take (length tasks - 10 * n) (drop (10 * n) tasks)
-
   task_part : tasks ≡ drop 8 s
   task_part = part s 8
 
-  core_part : cores ≡ drop (10 * n) tasks
-  core_part = part tasks (10 * n)
+  abbrev cores : ℕ → List ℕ
+  cores m = take (length tasks - 10 * m) (drop (10 * m) tasks)
+
+  pub tasks_long : (m : ℕ) → m ≡ n → 10 * m ≤ length tasks
+  tasks_long m e = rw (task_part, length-drop 8 s, e, tasks_same) (omega (arith, good.frame.size))
 
   -- with the cores by position and the positions by task number they hold its figures
-  module _ (grouped : Bool) (on positions : List ℕ) (version-same : grouped ≡ is_grouped s) (cs : Column (core_of_position grouped c tasks cores) (min n 64) on) (ps : Column (position_of_number grouped (min n 64) tasks) (min n 64) positions) where
+  module _ (grouped stroked : Bool) (m : ℕ) (on positions : List ℕ) (version-same : grouped ≡ is_grouped s) (strokes-same : stroked ≡ is_stroked s) (size-same : m ≡ n) (cs : Column (core_of_position grouped c tasks (cores m)) (min n 64) on) (ps : Column (position_of_number grouped (min n 64) tasks) (min n 64) positions) where
     abbrev f : Figures
-    f = figures_with (at on) one_tick n c tasks cores
+    f = figures_with (at on) (stroke_of_position stroked tasks) n c tasks (cores m)
 
-    positioned : Agree (unbroken (by_position s)) f
+    core_part : cores m ≡ drop (10 * task_count s) (drop 8 s)
+    core_part = part tasks (10 * m) ∙ rw (task_part, size-same, tasks_same)
+
+    positioned : Agree (by_position s) f
     positioned =
         record {
           tasks = tasks_same;
           cores = cores_same;
           period = λ i h. rw task_part;
           budget = λ i h. rw task_part;
-          core = λ i h. cs.below i (omega (arith, tasks_same, tasks_few)) ∙ rw (core_part, task_part, version-same, cores_same, tasks_same);
-          stroke = λ i h. refl;
+          core = λ i h. cs.below i (omega (arith, tasks_same, tasks_few)) ∙ rw (core_part, task_part, version-same, cores_same);
+          stroke = λ i h. rw (strokes-same, task_part);
           factor = λ i h. rw task_part;
-          pivot = λ k h. rw (core_part, task_part, tasks_same);
-          divisor = λ k h. rw (core_part, task_part, tasks_same);
+          pivot = λ k h. rw core_part;
+          divisor = λ k h. rw core_part;
         }
 
     position_same : (i : ℕ) → i < task_count s → at positions i ≡ position_of_number (is_grouped s) (task_count s) (drop 8 s) i
@@ -102,7 +97,7 @@ module _ (s : List ℕ) (n c : ℕ) (v : verdict s ≡ accepted n c) where
     position_inside : (i : ℕ) → i < task_count s → at positions i < task_count s
     position_inside i h = rw (position_same i h) (position_in (is_grouped s) (is_stroked s) (task_count s) (core_count s) (drop 8 s) good.order i h)
 
-    numbered : Agree (unbroken (figures s)) (renumbered (at positions) f)
+    numbered : Agree (figures s) (renumbered (at positions) f)
     numbered =
         record {
           tasks = tasks_same;
@@ -110,25 +105,24 @@ module _ (s : List ℕ) (n c : ℕ) (v : verdict s ≡ accepted n c) where
           period = λ i h. positioned.period (at positions i) (position_inside i h) ∙ ap (by_position s).period (position_same i h);
           budget = λ i h. positioned.budget (at positions i) (position_inside i h) ∙ ap (by_position s).budget (position_same i h);
           core = λ i h. positioned.core (at positions i) (position_inside i h) ∙ ap (by_position s).core (position_same i h);
-          stroke = λ i h. refl;
+          stroke = λ i h. positioned.stroke (at positions i) (position_inside i h) ∙ ap (by_position s).stroke (position_same i h);
           factor = λ i h. positioned.factor (at positions i) (position_inside i h) ∙ ap (by_position s).factor (position_same i h);
           pivot = positioned.pivot;
           divisor = positioned.divisor;
         }
 
     pub sheet_fitting : Fitting f
-    sheet_fitting = (agree_fits (unbroken (by_position s)) f positioned).0 (unbroken_fits (by_position s) good.fitting)
+    sheet_fitting = (agree_fits (by_position s) f positioned).0 good.fitting
 
     pub sheet_positions : (i : ℕ) → i < n → at positions i < n
     sheet_positions i h = rw tasks_same (position_inside i (rw tasks_same at h))
 
     tasks_text : joined (task_line (renumbered (at positions) f)) (numbers 0 n) ≡ joined (task_line (figures s)) (numbers 0 (task_count s))
-    tasks_text = tasks_agree (unbroken (figures s)) (renumbered (at positions) f) numbered (unbroken_fits (figures s) ((views_fit s good.order).0 good.fitting)).tasks ∙ unbroken_tasks (figures s) _
+    tasks_text = tasks_agree (figures s) (renumbered (at positions) f) numbered ((views_fit s good.order).0 good.fitting).tasks
 
     cores_text : joined (core_line f) (numbers 0 c) ≡ joined (core_line (figures s)) (numbers 0 (core_count s))
     cores_text =
-        cores_renamed (unbroken (by_position s)) f (λ i. i) (agree_renamed (unbroken (by_position s)) f positioned)
-        ∙ unbroken_cores (by_position s) _
+        cores_renamed (by_position s) f (λ i. i) (agree_renamed (by_position s) f positioned)
         ∙ sym (cores_renamed (by_position s) (figures s) (number_of_position (is_grouped s) (drop 8 s)) (sheet_renamed s good.order))
 
     -- the text is the header, the tasks and the cores
@@ -152,60 +146,24 @@ module _ (s : List ℕ) (n c : ℕ) (v : verdict s ≡ accepted n c) where
     cores_room mid₂ t₂ next₂ k₂ q = omega (arith, tasks_few, cores_few, p.cap, q.cap)
 
 -- the ways out: an output that is too short, and a text that is written
-module _ (s out : List ℕ) (h : length out < 8192) where
-  pub tight_answer : refused 16 0 ≡ listed s out
-  unfolding listed
-  tight_answer = rw (lt-ltb (length out) 8192 h)
+pub tight_out : (s out : List ℕ) → length out < 8192 → (refused 16 0 ≡ listed s out) × (out ≡ holding s out)
+unfolding listed holding
+tight_out s out h = (rw (lt-ltb (length out) 8192 h), rw (lt-ltb (length out) 8192 h))
 
-  pub tight_bytes : out ≡ holding s out
-  unfolding holding over
-  tight_bytes = rw (lt-ltb (length out) 8192 h)
-
-module _ (s out new text : List ℕ) (after : ℕ) (h : 8192 ≤ length out) (e : listing_of s ≡ text) (p : Put out 0 text new after) where
-  written_answer : written after ≡ listed s out
-  unfolding listed
-  written_answer = rw (le-ltb (length out) 8192 h, e) (ap written (p.next ∙ zero-add (length text)))
-
-  written_bytes : new ≡ holding s out
-  unfolding holding over
-  written_bytes =
+module _ (s out new : List ℕ) (f : Result Counts (Rejection ℕ)) (after : ℕ) (h : 8192 ≤ length out) (v : outcome_of f ≡ verdict s) where
+  written_out : (text : List ℕ) → listing_of s ≡ text → Put out 0 text new after → (written after ≡ listed s out) × (new ≡ holding s out)
+  unfolding listed holding over
+  written_out text e p =
       let l : after ≡ length text = p.next ∙ zero-add (length text) in
-      rw (le-ltb (length out) 8192 h, e) (rw l at p.bytes)
+      (rw (le-ltb (length out) 8192 h, e) (ap written l), rw (le-ltb (length out) 8192 h, e) (rw l at p.bytes))
 
-module _ (s out new : List ℕ) (r : Verdict) (after most : ℕ) (h : 8192 ≤ length out) (v : outcome_of r ≡ verdict s) where
-  module _ (w : Refusal) (number place : ℕ) (q : r ≡ Rejected w place) (k : number ≡ number_of w) (p : Capped most out 0 (refused_line number place) new after) where
-    refused_text : listing_of s ≡ refused_line number place
-    unfolding listing_of text_of
-    refused_text = rw (← v, q, k)
+  pub refused_out : (r : Rejection ℕ) (number most : ℕ) (bytes : List ℕ) → f ≡ Err r → number ≡ number_of r.word → IsLine most (refused_line number r.place) bytes → Put out 0 bytes new after → (written after ≡ listed s out) × (new ≡ holding s out)
+  unfolding listing_of text_of
+  refused_out r number most bytes q k l p = written_out bytes (rw (← v, q, ← k) (sym l.same)) p
 
-    pub refused_answer : written after ≡ listed s out
-    refused_answer = written_answer s out new _ after h refused_text p.put
-
-    pub refused_bytes : new ≡ holding s out
-    refused_bytes = written_bytes s out new _ after h refused_text p.put
-
-  module _ (n c : ℕ) (q : r ≡ Accepted n c) where
-    pub is_accepted_lem : verdict s ≡ accepted n c
+  module _ (counts : Counts) (q : f ≡ Ok counts) where
+    pub is_accepted_lem : verdict s ≡ accepted counts.tasks counts.cores
     is_accepted_lem = sym v ∙ ap outcome_of q
 
-    module _ (p : Capped most out 0 (sheet_text (word s 3) (figures s)) new after) where
-      pub accepted_answer : written after ≡ listed s out
-      accepted_answer = written_answer s out new _ after h (accepted_text s n c is_accepted_lem) p.put
-
-      pub accepted_bytes : new ≡ holding s out
-      accepted_bytes = written_bytes s out new _ after h (accepted_text s n c is_accepted_lem) p.put
-
--- a text that is written lies within its buffer, and that front of it is as long
-module _ (s out new : List ℕ) (r : Listed) (x : ℕ) (q : r ≡ Written x) (e : answer_of r ≡ listed s out) (b : new ≡ holding s out) (k : length new ≡ length out) where
-  pub listed_room : x ≤ length new
-  unfolding listed holding over
-  listed_room = by (ltb (length out) 8192) (ap answer_of (sym q) ∙ e) b
-    where
-      by : (t : Bool) → written x ≡ cond t (refused 16 0) (written (length (listing_of s))) → new ≡ cond t out (listing_of s ++ drop (length (listing_of s)) out) → x ≤ length new
-      by true e b = absurd (let z : ◌≡◌ {A = ℕ} 0 1 = cc in omega arith)
-      by false e b =
-          let w : x ≡ length (listing_of s) = cc in
-          omega (arith, simp length-append at (ap length b))
-
-  pub listed_front : x ≡ length (take x new)
-  listed_front = sym (length-take-le x new listed_room)
+    pub accepted_out : Capped 8192 out 0 (sheet_text (word s 3) (figures s)) new after → (written after ≡ listed s out) × (new ≡ holding s out)
+    accepted_out p = written_out _ (accepted_text s counts.tasks counts.cores is_accepted_lem) p.put

@@ -1,21 +1,17 @@
 -- Texts written one after another into a buffer.
 -- Assumes nothing.
-use Prim.Native.Nat.{ℕ, ◌+◌, ◌-◌, ◌≤◌, ◌<◌}
-use mathlib.Core.Path.{◌≡◌, refl, sym, ap, ◌∙◌}
-use mathlib.Core.List.{List, [], ◌∷◌, ◌++◌, append_assoc}
+use Prim.Native.Nat.{ℕ, ◌+◌, ◌-◌, ◌≤◌}
+use mathlib.Core.Path.{◌≡◌, sym, ap, ◌∙◌}
+use mathlib.Core.List.{List, [], ◌++◌, append_assoc}
 use native.Mathlib.Nat.{add-zero}
-use native.Mathlib.Numerals.{add-one}
 use native.Mathlib.Omega.{arith}
-use lib.ListN.{length, take, drop, set, get_or, length-append, length-take, length-drop, take-append-drop}
-use lib.Seq.{take-suc, take_all, drop-drop, take_at, drop_at, set_split}
-use Rattle.listing.specs.Steps.{Put, Capped}
+use lib.ListN.{length, take, drop, length-append, length-take, length-drop, take-append-drop}
+use lib.Seq.{drop-drop, take_at, drop_at}
+use Rattle.listing.specs.Steps.{IsLine, Put, Capped}
 
--- nothing, and one byte
+-- nothing
 pub put_none : (out : List ℕ) (at : ℕ) → at ≤ length out → Put out at [] out at
 put_none out at h = record { bytes = sym (take-append-drop at out); next = sym (add-zero at); room = h }
-
-pub put_here : (out : List ℕ) (at b : ℕ) → at < length out → Put out at (b ∷ []) (set out at b) (at + 1)
-put_here out at b h = record { bytes = rw (add-one at) (set_split out at b h); next = refl; room = omega arith }
 
 -- two texts, the second behind the first
 module _ {out mid new t u : List ℕ} {at next after : ℕ} (q : Put mid next u new after) (p : Put out at t mid next) where
@@ -57,15 +53,5 @@ capped_none out at h = record { put = put_none out at h; cap = omega arith }
 pub capped_join : {out mid new t u : List ℕ} {at next after a b : ℕ} → Capped b mid next u new after → Capped a out at t mid next → Capped (a + b) out at (t ++ u) new after
 capped_join q p = record { put = put_join q.put p.put; cap = omega (arith, q.cap, p.cap) }
 
--- a word, byte by byte: what is written are its first i bytes
-pub word_start : (out text : List ℕ) (at : ℕ) → at + length text ≤ length out → Put out at (take 0 text) out at
-word_start out text at h = put_none out at (omega arith)
-
-pub word_turn : (out mid new text : List ℕ) (at next after i : ℕ) → i < length text → Put mid next (get_or text i 0 ∷ []) new after → Put out at (take i text) mid next → Put out at (take (i + 1) text) new after
-word_turn out mid new text at next after i h q p = rw (add-one i, take-suc text i 0 h) (put_join q p)
-
-pub word_room : (out mid text : List ℕ) (at next i : ℕ) → i < length text → at + length text ≤ length out → length mid ≡ length out → Put out at (take i text) mid next → next < length mid
-word_room out mid text at next i h r l p = omega (arith, p.next, length-take i text)
-
-pub word_end : (out new text : List ℕ) (at after i : ℕ) → length text ≤ i → Put out at (take i text) new after → Put out at text new after
-word_end out new text at after i h p = rw (take_all i text h) at p
+pub capped_line : {out new line bytes : List ℕ} {at after most : ℕ} → IsLine most line bytes → Put out at bytes new after → Capped most out at line new after
+capped_line l p = record { put = rw l.same at p; cap = omega (arith, p.next, l.short) }

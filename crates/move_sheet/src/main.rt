@@ -5,23 +5,22 @@
 use std::io::Input as Source;
 
 fn write_moved(rt: &(impl Print + Eprint), sheet: &[u8]) {
-    let mut out = [0u8; 712];
+    let mut out = [0; 712];
     match mover::move_sheet(sheet, &mut out) {
-        Err(rejection) => {
-            let _ = eprintln!(rt; "{rejection}");
-        }
         Ok(length) => {
-            let end = usize::from(length);
-            if let Err(error) = rt.write_all(&out[..end]) {
+            if let Err(error) = rt.write_all(&out[..usize::from(length)]) {
                 input::say_failed(rt, "standard output", error);
             }
+        }
+        Err(rejection) => {
+            let _ = eprintln!(rt; "{rejection}");
         }
     }
 }
 
 // Reads one byte more than a sheet can have. Of a longer input the rest is left unread, which changes nothing (proved as `moving_cut`).
 fn move_input(rt: &(impl Source + Print + Eprint)) {
-    let mut sheet = [0u8; 713];
+    let mut sheet = [0; 713];
     if let Some(n) = input::read_input(rt, &mut sheet) {
         write_moved(rt, &sheet[..n]);
     }

@@ -3,52 +3,42 @@
 #![tactic(auto)]
 
 ghost use Rattle.std.specs.Prelude.{◌≡◌, ◌≤◌};
-ghost use Rattle.jobtext.specs.Text.{is_digit};
 ghost use Rattle.plan.specs.Number.{longer, number_in};
 
-use jobinput::Lengths;
 use std::env::{Env, FillError};
 use std::io::Input as Source;
 
-fn is_digit(b: u8) -> bool
-    ensures { result ≡ is_digit b }
-{
-    (48 <= b) & (b <= 57)
-}
+// The largest number that is told from the next: a core limit and a start are out of range long before it.
+const MOST: u64 = 1_000_000;
 
 // A number with one digit more.
 #[tactic(auto, unfolding(crate::specs::Number::longer))]
-fn extend(x: u64, b: u8) -> u64
-    requires { (x ≤ 1000000) × (48 ≤ b) }
-    ensures { (result ≡ longer x b) × (result ≤ 1000000) }
+fn extend(number: u64, digit: u8) -> u64
+    requires { (number ≤ 1000000) × (48 ≤ digit) }
+    ensures { (result ≡ longer number digit) × (result ≤ 1000000) }
 {
-    let next = 10 * x + (b as u64) - 48;
-    if next < 1_000_000 { next } else { 1_000_000 }
+    MOST.min(10 * number + u64::from(digit) - 48)
 }
 
 fn read_number(text: &[u8]) -> Option<u64>
     ensures { result ≡ number_in text.now }
 {
-    if text.len() == 0 {
+    if text.is_empty() {
         return None;
     }
-    let mut x = 0;
-    let mut i = 0;
-    while i < text.len() {
-        let b = text[i];
-        if !is_digit(b) {
+    let mut number = 0;
+    for &byte in text {
+        if !byte.is_ascii_digit() {
             return None;
         }
-        let next = extend(x, b);
-        x = next;
-        i += 1;
+        number = extend(number, byte);
     }
-    Some(x)
+    Some(number)
 }
 
 // Argument i, or a number in its place where it is absent. One too long for the buffer is wrong.
 fn argument(rt: &impl Env, i: usize, absent: u64) -> Option<u64> {
-    let mut text = [0u8; 4096];
+    let mut text = [0; 4096];
     match rt.arg(i, &mut text) {
         Ok(n) => read_number(&text[..n]),
         Err(FillError::NotPresent) => Some(absent),
@@ -56,48 +46,48 @@ fn argument(rt: &impl Env, i: usize, absent: u64) -> Option<u64> {
     }
 }
 
-fn say_usage(rt: &impl Eprint) {
-    let _ = eprintln!(rt; "usage: plan [LIMIT [START]] < JOBS > SHEET");
-}
-
 // Plans the job list of a text and writes the sheet.
 fn plan_jobs(rt: &(impl Print + Eprint), text: &[u8], jobs: &[u8], limit: u64, start: u64) {
-    let mut sheet = [0u8; 712];
+    let mut sheet = [0; 712];
     match planner::plan(jobs, limit, start, &mut sheet) {
-        Err(rejection) => {
-            jobinput::say_refused(rt, rejection, text, jobs.is_empty());
-        }
         Ok(planned) => {
-            let end = usize::from(planned.length);
-            if let Err(error) = rt.write_all(&sheet[..end]) {
+            if let Err(error) = rt.write_all(&sheet[..usize::from(planned.length)]) {
                 input::say_failed(rt, "standard output", error);
             }
+        }
+        Err(rejection) => {
+            jobinput::say_refused(rt, rejection, text, jobs.is_empty());
         }
     }
 }
 
 fn plan_input(rt: &(impl Source + Print + Eprint), limit: u64, start: u64) {
-    let mut text = [0u8; 65536];
-    let mut jobs = [0u8; 256];
-    if let Some(Lengths { text: t, jobs: n }) = jobinput::read_list(rt, &mut text, &mut jobs) {
-        plan_jobs(rt, &text[..t], &jobs[..n], limit, start);
+    let mut text = [0; 65536];
+    let mut jobs = [0; 256];
+    if let Some(lengths) = jobinput::read_list(rt, &mut text, &mut jobs) {
+        plan_jobs(
+            rt,
+            &text[..lengths.text],
+            &jobs[..lengths.jobs],
+            limit,
+            start,
+        );
     }
 }
 
-fn main(rt: HostRuntime) {
-    if input::has_argument(&rt, 3) {
-        say_usage(&rt);
-        return;
+// The core limit and the start that the arguments give.
+fn arguments(rt: &impl Env) -> Option<(u64, u64)> {
+    if input::has_argument(rt, 3) {
+        return None;
     }
-    let limit = argument(&rt, 1, 8);
-    let start = argument(&rt, 2, 0);
-    let Some(cores) = limit else {
-        say_usage(&rt);
-        return;
-    };
-    let Some(from) = start else {
-        say_usage(&rt);
-        return;
-    };
-    plan_input(&rt, cores, from);
+    Some((argument(rt, 1, 8)?, argument(rt, 2, 0)?))
+}
+
+fn main(rt: HostRuntime) {
+    match arguments(&rt) {
+        Some((limit, start)) => plan_input(&rt, limit, start),
+        None => {
+            let _ = eprintln!(rt; "usage: plan [LIMIT [START]] < JOBS > SHEET");
+        }
+    }
 }

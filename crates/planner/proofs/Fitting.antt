@@ -1,40 +1,46 @@
 -- First fit as the code walks it: the figures of a core, whether it takes a task, the core for a task, and the walk.
 -- Assumes nothing.
-use Prim.Native.Nat.{ℕ, suc, ◌+◌, ◌-◌, ◌≤◌, ◌<◌}
+use Prim.Native.Nat.{ℕ, suc, ◌+◌, ◌≤◌, ◌<◌}
 use mathlib.Core.Path.{◌≡◌, refl, sym, ap, ap₂, ◌∙◌}
 use mathlib.Core.Logic.{◌⊎◌, inl, inr}
 use mathlib.Core.Bool.{Bool, true, false, cond}
 use Rattle.std.specs.Prelude.{Option, None, Some}
+use Rattle.std.specs.Bool.{then_some}
+use Rattle.std.specs.List.{find as std_find, range_with_len}
+use Rattle.std.specs.Option.{option_or, is_some as std_is_some}
 use Rattle.sheet.proofs.Options.{some-injective, none-ne-some}
-use mathlib.Core.List.{List, [], ◌∷◌, ◌++◌, map}
+use mathlib.Core.List.{List, map}
 use native.Mathlib.Numerals.{add-one}
 use native.Mathlib.Omega.{arith}
 use borrow.Author.Tests.{lt-ltb, le-ltb, ltb-true}
-use lib.ListN.{length, take, drop, get_or, set, length-take, drop_of_length-le}
-use lib.Seq.{drop-cons}
+use lib.ListN.{length, take, drop, get_or, drop_of_length-le}
+use lib.Seq.{drop-cons, take_all}
 use lib.Dec.{ltb}
-use Rattle.sheet.specs.declared.Found.{Found}
-use Rattle.sheet.specs.declared.Found.TheVariants.{At, Nothing}
-use Rattle.sheet.specs.Table.{found_of}
+use Rattle.fit.specs.declared.By.TheVariants.{Period}
 use Rattle.fit.specs.Priority.{is_on}
-use Rattle.fit.specs.declared.Order.{Order}
 use Rattle.fit.specs.Lists.{numbers, find, select, at}
 use Rattle.fit.specs.Ring.{order_by}
-use Rattle.fit.specs.Answers.{Ordered}
+use Rattle.fit.proofs.Lists.{select_length}
 use Rattle.fit.proofs.Priority.{order_count}
 use Rattle.fit.proofs.Selecting.{select_order}
 use Rattle.fit.proofs.Finds.{find_some_lem}
+use Rattle.fit.proofs.Words.{find_range}
 use Rattle.jobs.specs.Jobs.{job_count, job_period, job_budget}
-use Rattle.figures.specs.declared.Outcome.{Outcome}
+use Rattle.figures.specs.declared.CoreFigures.{CoreFigures}
 use Rattle.figures.specs.Constructions.{Acceleration}
 use Rattle.figures.specs.Passing.{first_passing}
 use Rattle.figures.specs.Answers.{outcome}
 use Rattle.planner.specs.declared.Assignment.{Assignment}
-use Rattle.planner.specs.declared.Fitted.{Fitted}
-use Rattle.planner.specs.declared.TaskSet.{TaskSet}
-use Rattle.planner.specs.FirstFit.{rotate, unassigned, core_set, core_figures, is_some, takes, chosen, core_for, assign, placed, unplaced, onward, first_fit}
-use Rattle.planner.specs.Steps.{Prioritized, Gathered, fit_by, fitted}
-use Rattle.fit.proofs.Lists.{part}
+use Rattle.planner.specs.FirstFit.{unassigned, core_set, core_figures, is_some, takes, chosen, core_for, assign, placed, unplaced, onward, first_fit}
+use Rattle.planner.specs.Steps.{figures_in, takes_in, core_in, walk_in}
+
+-- a job list of at most 64 entries, and its tasks in priority order
+pub record Prioritized (l order : List ℕ) : Type 0 where
+  pub few : job_count l ≤ 64
+  pub tasks : order ≡ order_by Period (job_period l) (job_count l)
+
+pub prioritized : (l order : List ℕ) → job_count l ≤ 64 → order ≡ order_by Period (job_period l) (job_count l) → Prioritized l order
+prioritized l order h e = record { few = h; tasks = e }
 
 -- the priority order has at most 64 tasks
 pub prioritized_few : (l order : List ℕ) → Prioritized l order → length order ≤ 64
@@ -46,62 +52,40 @@ pub picked : (l order core : List ℕ) (k : ℕ) → Prioritized l order → sel
 unfolding order_by core_set is_on
 picked l order core k p = rw p.tasks (select_order (job_period l) (at core) k (job_count l))
 
--- a list of tasks in an array, and what was gathered for it
-pub ordered_few : (l : List ℕ) (o : Order) → Ordered l o → length (take o.count o.tasks) ≤ 64
-ordered_few l o h = simp length-take (omega (arith, h.count))
-
-pub ordered_room : (l x : List ℕ) (o : Order) → Ordered l o → length x ≡ 64 → o.count ≤ length x
-ordered_room l x o h e = omega (arith, h.count)
-
-pub ordered_front : (l x : List ℕ) (o : Order) → Ordered l o → length x ≡ 64 → o.count ≡ length (take o.count x)
-ordered_front l x o h e = simp length-take (omega (arith, h.count))
-
-pub figures_found : (l order core : List ℕ) (k : ℕ) (o : Order) (s : TaskSet) (r : Outcome) → Prioritized l order → Ordered (select (is_on (at core) k) order) o → Gathered l (take o.count o.tasks) s → r ≡ outcome (first_passing (take o.count s.periods) (take o.count s.budgets)) → r ≡ outcome (core_figures (job_period l) (job_budget l) (job_count l) core k)
+-- the figures of a core, from the periods and budgets of its tasks
+pub figures_found : (l order core tasks : List ℕ) (k j : ℕ) (ps es : List ℕ) (r : Option CoreFigures) → Prioritized l order → tasks ≡ select (is_on (at core) k) order → length tasks ≤ j → ps ≡ map (job_period l) (take j tasks) → es ≡ map (job_budget l) (take j tasks) → r ≡ outcome (first_passing ps es) → r ≡ outcome (figures_in l core k)
 unfolding core_figures
-figures_found l order core k o s r p h g e = e ∙ ap outcome (ap₂ first_passing (front s.periods (job_period l) g.periods) (front s.budgets (job_budget l) g.budgets))
-  where
-    size : length (take o.count o.tasks) ≡ o.count
-    size = simp length-take (omega (arith, h.count, h.size))
+figures_found l order core tasks k j ps es r p t h a b e =
+    let all : take j tasks ≡ core_set (job_period l) (job_count l) core k = take_all j tasks h ∙ t ∙ picked l order core k p in
+    e ∙ ap outcome (ap₂ first_passing (a ∙ ap (map (job_period l)) all) (b ∙ ap (map (job_budget l)) all))
 
-    front : (x : List ℕ) (f : ℕ → ℕ) → take (length (take o.count o.tasks)) x ≡ map f (take o.count o.tasks) → take o.count x ≡ map f (core_set (job_period l) (job_count l) core k)
-    front x f q = ap (λ m. take m x) (sym size) ∙ q ∙ ap (map f) (h.tasks ∙ picked l order core k p)
+-- a core has at most 64 tasks
+pub tasks_few : (l order core : List ℕ) (k : ℕ) → Prioritized l order → length (select (is_on (at core) k) order) ≤ 64
+tasks_few l order core k p = omega (arith, select_length (is_on (at core) k) order, prioritized_few l order p)
 
 -- a core takes a task if the tasks pass together
-passes_some : (x : Option Acceleration) → (outcome x).passes ≡ is_some x
-unfolding outcome is_some
+passes_some : (x : Option Acceleration) → std_is_some (outcome x) ≡ is_some x
+unfolding is_some
 passes_some None = refl
 passes_some (Some a) = refl
 
-pub taken : (p e : ℕ → ℕ) (n i k : ℕ) (core next : List ℕ) (r : Outcome) → next ≡ set core i k → r ≡ outcome (core_figures p e n next k) → r.passes ≡ takes p e n i core k
-unfolding takes
-taken p e n i k core next r q h = ap (λ t. t.passes) h ∙ passes_some _ ∙ rw q
+pub taken : (l : List ℕ) (i k : ℕ) (a next : Assignment) (r : Option CoreFigures) → next ≡ assign i k a → r ≡ outcome (figures_in l next.core k) → std_is_some r ≡ takes_in l i a.core k
+unfolding takes assign
+taken l i k a next r q h = ap std_is_some h ∙ passes_some _ ∙ rw q
 
 -- the core for a task: one that is open, a new one, or none
-module _ (p e : ℕ → ℕ) (n limit i : ℕ) (a : Assignment) (f : Found) (h : found_of f ≡ find (takes p e n i a.core) (numbers 0 a.cores)) where
-  pub core_open : (k : ℕ) → f ≡ At k → found_of f ≡ core_for p e n limit i a
-  unfolding core_for chosen
-  core_open k q = by (find (takes p e n i a.core) (numbers 0 a.cores)) h
-    where
-      by : (o : Option ℕ) → found_of f ≡ o → found_of f ≡ chosen o limit a.cores
-      by None t = absurd (none-ne-some k (sym t ∙ ap found_of q))
-      by (Some j) t = t
+chosen_or : (o : Option ℕ) (limit cores : ℕ) → option_or o (then_some (ltb cores limit) cores) ≡ chosen o limit cores
+unfolding chosen
+chosen_or None limit cores = by (ltb cores limit)
+  where
+    by : (b : Bool) → then_some b cores ≡ cond b (Some cores) None
+    by true = refl
+    by false = refl
+chosen_or (Some k) limit cores = refl
 
-  pub core_new : f ≡ Nothing → a.cores < limit → Some a.cores ≡ core_for p e n limit i a
-  unfolding core_for chosen
-  core_new q b = rw (← h, q, lt-ltb a.cores limit b)
-
-  pub core_none : f ≡ Nothing → limit ≤ a.cores → None ≡ core_for p e n limit i a
-  unfolding core_for chosen
-  core_none q b = rw (← h, q, le-ltb a.cores limit b)
-
--- a task is put on an open core or on the next new one
-pub assign_open : (i k : ℕ) (a : Assignment) (core : List ℕ) → k < a.cores → core ≡ set a.core i k → record { core = core; cores = a.cores } ≡ assign i k a
-unfolding assign
-assign_open i k a core h e = rw (e, lt-ltb k a.cores h)
-
-pub assign_new : (i k : ℕ) (a : Assignment) (core : List ℕ) → a.cores ≤ k → core ≡ set a.core i k → record { core = core; cores = a.cores + 1 } ≡ assign i k a
-unfolding assign
-assign_new i k a core h e = rw (e, le-ltb k a.cores h)
+pub core_found : (l : List ℕ) (limit i : ℕ) (a : Assignment) (o : Option ℕ) → o ≡ std_find (takes_in l i a.core) (range_with_len 0 a.cores) → option_or o (then_some (ltb a.cores limit) a.cores) ≡ core_in l limit i a
+unfolding core_for
+core_found l limit i a o h = chosen_or o limit a.cores ∙ ap (λ t. chosen t limit a.cores) (h ∙ find_range _ 0 a.cores)
 
 -- the core that is found is open, or the next one and below the limit
 pub core_choice : (p e : ℕ → ℕ) (n limit i k : ℕ) (a : Assignment) → Some k ≡ core_for p e n limit i a → ((k < a.cores) × (takes p e n i a.core k ≡ true)) ⊎ ((k ≡ a.cores) × (a.cores < limit))
@@ -129,87 +113,29 @@ assign_cores p e n limit i k a h q = by (core_choice p e n limit i k a q)
     by (inr x) = rw (le-ltb k a.cores (omega (arith, x.0))) (omega (arith, x.1))
 
 -- what is left of the walk
-pub record Walked (p e : ℕ → ℕ) (n limit : ℕ) (part : List ℕ) (from : Assignment) (j : ℕ) (a : Assignment) : Type 0 where
+pub record Walked (l : List ℕ) (limit : ℕ) (tasks : List ℕ) (j : ℕ) (a : Assignment) : Type 0 where
   pub cores : a.cores ≤ limit
-  pub rest : first_fit p e n limit part from ≡ first_fit p e n limit (drop j part) a
+  pub rest : walk_in l limit tasks ≡ first_fit (job_period l) (job_budget l) (job_count l) limit (drop j tasks) a
 
-module _ (p e : ℕ → ℕ) (n limit : ℕ) (part : List ℕ) (from : Assignment) where
-  pub walk_start : from.cores ≤ limit → Walked p e n limit part from 0 from
-  walk_start h = record { cores = h; rest = refl }
-
-  module _ (j : ℕ) (a : Assignment) (w : Walked p e n limit part from j a) where
-    module _ (h : j < length part) (f : Found) (t : found_of f ≡ core_for p e n limit (get_or part j 0) a) where
-      walk_step : (o : Option ℕ) → found_of f ≡ o → first_fit p e n limit part from ≡ onward (get_or part j 0) (λ k. first_fit p e n limit (drop (suc j) part) (assign (get_or part j 0) k a)) o
-      unfolding first_fit
-      walk_step o q = w.rest ∙ rw (drop-cons part j 0 h, ← t, q)
-
-      pub walk_stop : f ≡ Nothing → fitted (record { unplaced = At (get_or part j 0); assignment = a }) ≡ first_fit p e n limit part from
-      unfolding fitted fit_by onward
-      walk_stop q = sym (walk_step None (rw q))
-
-      pub walk_turn : (k : ℕ) (next : Assignment) → f ≡ At k → next ≡ assign (get_or part j 0) k a → Walked p e n limit part from (j + 1) next
-      unfolding onward
-      walk_turn k next q s =
-          record { cores = rw s (assign_cores p e n limit (get_or part j 0) k a w.cores (sym (ap found_of q) ∙ t)); rest = walk_step (Some k) (rw q) ∙ rw (s, add-one j) }
-
-    pub walk_end : length part ≤ j → fitted (record { unplaced = Nothing; assignment = a }) ≡ first_fit p e n limit part from
-    unfolding fitted fit_by first_fit
-    walk_end h = sym (w.rest ∙ rw (drop_of_length-le part h))
-
--- a walk in two parts
-module _ (p e : ℕ → ℕ) (n limit : ℕ) where
-  fit_stop : (xs ys : List ℕ) (a : Assignment) (i : ℕ) → first_fit p e n limit xs a ≡ unplaced i → first_fit p e n limit (xs ++ ys) a ≡ unplaced i
-  unfolding first_fit onward
-  fit_stop [] ys a i h = absurd (placed_unplaced a i h)
-    where
-      placed_unplaced : (a : Assignment) (i : ℕ) → placed a ≡ unplaced i → ⊥
-      placed_unplaced a i h = let z : ◌≡◌ {A = ℕ} 0 1 = cc in omega arith
-  fit_stop (x ∷ xs) ys a i h = by (core_for p e n limit x a) h (λ k. fit_stop xs ys (assign x k a) i)
-    where
-      by : (o : Option ℕ) → onward x (λ k. first_fit p e n limit xs (assign x k a)) o ≡ unplaced i → ((k : ℕ) → first_fit p e n limit xs (assign x k a) ≡ unplaced i → first_fit p e n limit (xs ++ ys) (assign x k a) ≡ unplaced i) → onward x (λ k. first_fit p e n limit (xs ++ ys) (assign x k a)) o ≡ unplaced i
-      by None q r = q
-      by (Some k) q r = r k q
-
-  fit_go : (xs ys : List ℕ) (a b : Assignment) → first_fit p e n limit xs a ≡ placed b → first_fit p e n limit (xs ++ ys) a ≡ first_fit p e n limit ys b
-  unfolding first_fit onward
-  fit_go [] ys a b h = ap (first_fit p e n limit ys) (cc)
-  fit_go (x ∷ xs) ys a b h = by (core_for p e n limit x a) h (λ k. fit_go xs ys (assign x k a) b)
-    where
-      by : (o : Option ℕ) → onward x (λ k. first_fit p e n limit xs (assign x k a)) o ≡ placed b → ((k : ℕ) → first_fit p e n limit xs (assign x k a) ≡ placed b → first_fit p e n limit (xs ++ ys) (assign x k a) ≡ first_fit p e n limit ys b) → onward x (λ k. first_fit p e n limit (xs ++ ys) (assign x k a)) o ≡ first_fit p e n limit ys b
-      by None q r = let z : ◌≡◌ {A = ℕ} 0 1 = cc in absurd (omega arith)
-      by (Some k) q r = r k q
-
-  -- no more cores are open than the limit allows
-  fit_cores : (xs : List ℕ) (a b : Assignment) → a.cores ≤ limit → first_fit p e n limit xs a ≡ placed b → b.cores ≤ limit
-  unfolding first_fit onward
-  fit_cores [] a b h q = let same : a ≡ b = cc in rw (← same) h
-  fit_cores (x ∷ xs) a b h q = by (core_for p e n limit x a) refl q (λ k. fit_cores xs (assign x k a) b)
-    where
-      by : (o : Option ℕ) → core_for p e n limit x a ≡ o → onward x (λ k. first_fit p e n limit xs (assign x k a)) o ≡ placed b → ((k : ℕ) → (assign x k a).cores ≤ limit → first_fit p e n limit xs (assign x k a) ≡ placed b → b.cores ≤ limit) → b.cores ≤ limit
-      by None t s r = let z : ◌≡◌ {A = ℕ} 0 1 = cc in absurd (omega arith)
-      by (Some k) t s r = r k (assign_cores p e n limit x k a h (sym t)) s
-
--- the ring, walked once round from the start
-pub none_open : (a : Assignment) (limit : ℕ) → a ≡ unassigned → a.cores ≤ limit
+pub walk_start : (l : List ℕ) (limit : ℕ) (tasks : List ℕ) (a : Assignment) → a ≡ unassigned → Walked l limit tasks 0 a
 unfolding unassigned
-none_open a limit e = rw e (omega arith)
+walk_start l limit tasks a e = record { cores = rw e (omega arith); rest = rw e }
 
-module _ (p e : ℕ → ℕ) (n limit start : ℕ) (ring : List ℕ) (a : Assignment) (w : Fitted) (q : a ≡ unassigned) (t : fitted w ≡ first_fit p e n limit (take (length ring - start) (drop start ring)) a) where
-  first : fitted w ≡ first_fit p e n limit (drop start ring) unassigned
-  first = rw (q, part ring start) at t
+module _ (l : List ℕ) (limit : ℕ) (tasks : List ℕ) (j : ℕ) (a : Assignment) (w : Walked l limit tasks j a) where
+  module _ (h : j < length tasks) where
+    walk_step : (o : Option ℕ) → o ≡ core_in l limit (get_or tasks j 0) a → walk_in l limit tasks ≡ onward (get_or tasks j 0) (λ k. first_fit (job_period l) (job_budget l) (job_count l) limit (drop (suc j) tasks) (assign (get_or tasks j 0) k a)) o
+    unfolding first_fit
+    walk_step o q = w.rest ∙ rw (drop-cons tasks j 0 h, q)
 
-  pub ring_stop : (i : ℕ) → w.unplaced ≡ At i → fitted w ≡ first_fit p e n limit (rotate start ring) unassigned
-  unfolding fitted fit_by rotate
-  ring_stop i u = rw u (sym (fit_stop p e n limit (drop start ring) (take start ring) unassigned i (sym first ∙ rw u)))
+    pub walk_stop : None ≡ core_in l limit (get_or tasks j 0) a → walk_in l limit tasks ≡ unplaced (get_or tasks j 0)
+    unfolding onward
+    walk_stop q = walk_step None q
 
-  module _ (u : w.unplaced ≡ Nothing) where
-    whole : first_fit p e n limit (drop start ring) unassigned ≡ placed w.assignment
-    unfolding fitted fit_by
-    whole = sym first ∙ rw u
+    pub walk_turn : (k : ℕ) (next : Assignment) → Some k ≡ core_in l limit (get_or tasks j 0) a → next ≡ assign (get_or tasks j 0) k a → Walked l limit tasks (j + 1) next
+    unfolding onward
+    walk_turn k next q s =
+        record { cores = rw s (assign_cores (job_period l) (job_budget l) (job_count l) limit (get_or tasks j 0) k a w.cores q); rest = walk_step (Some k) q ∙ rw (s, add-one j) }
 
-    pub ring_few : w.assignment.cores ≤ limit
-    ring_few = fit_cores p e n limit (drop start ring) unassigned w.assignment (none_open unassigned limit refl) whole
-
-    pub ring_round : (v : Fitted) → fitted v ≡ first_fit p e n limit (take start ring) w.assignment → fitted v ≡ first_fit p e n limit (rotate start ring) unassigned
-    unfolding rotate
-    ring_round v z = z ∙ sym (fit_go p e n limit (drop start ring) (take start ring) unassigned w.assignment whole)
+  pub walk_end : length tasks ≤ j → walk_in l limit tasks ≡ placed a
+  unfolding first_fit
+  walk_end h = w.rest ∙ rw (drop_of_length-le tasks h)

@@ -1,8 +1,10 @@
 // The planner: a job list, a core limit and a start become a sheet in a lent buffer (docs/SHEET.md, section 5).
 #![tactic(auto)]
 
-ghost use Rattle.std.specs.Prelude.{◌≡◌, length};
+ghost use Rattle.std.specs.Prelude.{◌≡◌, ◌≤◌, length, set};
 ghost use Rattle.sheet.specs.Table.{scan, refusal_of};
+ghost use Rattle.fit.specs.Lists.{at};
+ghost use Rattle.planner.specs.FirstFit.{unassigned as noneAssigned, assign};
 ghost use Rattle.planner.specs.Plan.{bad_start, call_rows, plan_outcome, plan_output, outcome_of, Accepting};
 
 mod sets;
@@ -10,6 +12,7 @@ mod walker;
 mod writer;
 
 use fit::By;
+use sets::Jobs;
 use sheet::{Refusal, Rejection};
 
 // The counts and the length of the sheet that is written.
@@ -20,6 +23,16 @@ pub struct Planned {
     pub length: u16,
 }
 
+// Stores x at place i; past the end nothing is stored.
+fn store<T: Copy>(list: &mut [T], i: u8, x: T)
+    ensures { list.new ≡ set list.old i x }
+{
+    let i = usize::from(i);
+    if i < list.len() {
+        list[i] = x;
+    }
+}
+
 // The core of each task by number, 255 for a task that has none yet, and how many cores are open.
 #[derive(Clone, Copy)]
 struct Assignment {
@@ -27,34 +40,43 @@ struct Assignment {
     cores: u8,
 }
 
-// The task that finds no core.
-#[derive(Clone, Copy, Debug, PartialEq, Eq)]
-struct Unplaced {
-    task: u8,
+impl Assignment {
+    #[tactic(auto, unfolding(crate::specs::FirstFit::unassigned))]
+    fn unassigned() -> Self
+        ensures { result ≡ noneAssigned }
+    {
+        Assignment {
+            core: [255; 64],
+            cores: 0,
+        }
+    }
+
+    // The core of task i; 0 past the end.
+    fn core_of(&self, i: u8) -> u8
+        ensures { result ≡ at self.now.core i }
+    {
+        self.core.get(usize::from(i)).copied().unwrap_or(0)
+    }
+
+    // With task i on core k, which may be the next new one.
+    #[tactic(auto, unfolding(crate::specs::FirstFit::assign))]
+    fn with(mut self, i: u8, k: u8) -> Self
+        requires { self.cores ≤ 8 }
+        ensures { result ≡ assign i k self }
+    {
+        store(&mut self.core, i, k);
+        if self.cores <= k {
+            self.cores += 1;
+        }
+        self
+    }
 }
 
-// The periods and budgets of a set of tasks in priority order.
-#[derive(Clone, Copy)]
-struct TaskSet {
-    periods: [u16; 64],
-    budgets: [u16; 64],
-}
-
-// Pivots and divisors by core number, factors by task number.
-#[derive(Clone, Copy)]
-struct Rates {
-    pivots: [u16; 8],
-    divisors: [u32; 8],
-    factors: [u32; 64],
-}
-
+#[tactic(auto, unfolding(crate::specs::Plan::bad_start))]
 fn is_bad_start(n: u8, start: u64) -> bool
     ensures { result ≡ bad_start n start }
 {
-    if n == 0 {
-        return start != 0;
-    }
-    n as u64 <= start
+    u64::from(n.max(1)) <= start
 }
 
 // The refusals that are told before any core is looked for: 5, 4, 7, 8, 22 and 16.
@@ -62,8 +84,7 @@ fn check_call(jobs: &[u8], limit: u64, start: u64, room: usize) -> Result<(), Re
     ensures { refusal_of result ≡ scan (call_rows jobs.now limit start room) }
 {
     jobs::check_list(jobs, limit)?;
-    let n = (jobs.len() / 4) as u8;
-    if is_bad_start(n, start) {
+    if is_bad_start((jobs.len() / 4) as u8, start) {
         return Err(Refusal::Start.at(0));
     }
     if room < 712 {
@@ -79,18 +100,16 @@ pub fn plan(jobs: &[u8], limit: u64, start: u64, out: &mut [u8]) -> Result<Plann
     ensures accepting { Accepting result out.new }
 {
     check_call(jobs, limit, start, out.len())?;
-    let n = (jobs.len() / 4) as u8;
-    let order = sets::tasks_by(By::Period, jobs, n);
-    let fit = walker::fit_list(jobs, n, order.as_slice(), limit as u8, start as usize);
-    match fit {
-        Err(Unplaced { task }) => Err(Refusal::NoFit.at(u16::from(task))),
-        Ok(a) => {
-            let length = writer::write_sheet(out, jobs, n, order.as_slice(), a);
-            Ok(Planned {
-                tasks: n,
-                cores: a.cores,
-                length,
-            })
-        }
-    }
+    let order = jobs::in_order(By::Period, jobs, (jobs.len() / 4) as u8);
+    let jobs = Jobs {
+        list: jobs,
+        order: order.as_slice(),
+    };
+    let assignment = jobs.first_fit(limit as u8, start as usize)?;
+    let length = jobs.write_sheet(&assignment, out);
+    Ok(Planned {
+        tasks: jobs.count(),
+        cores: assignment.cores,
+        length,
+    })
 }

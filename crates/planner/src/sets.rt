@@ -1,127 +1,116 @@
-// The tasks of each core, and the figures of cores. `order` has all tasks in priority order; `cores` is the core of each task by number.
-ghost use Rattle.std.specs.Prelude.{◌≡◌, ◌<◌, ◌≤◌, length, set};
+// The tasks of each core, and the figures of cores.
+ghost use Rattle.std.specs.Prelude.{◌≡◌, ◌≤◌, length};
+ghost use Rattle.fit.specs.declared.By.TheVariants.{Period};
 ghost use Rattle.fit.specs.Priority.{is_on};
 ghost use Rattle.fit.specs.Lists.{select, at};
 ghost use Rattle.fit.specs.Ring.{order_by};
-ghost use Rattle.jobs.specs.Jobs.{job_count, job_period, job_budget};
+ghost use Rattle.jobs.specs.Jobs.{job_count, job_period};
 ghost use Rattle.figures.specs.Answers.{outcome};
-ghost use Rattle.planner.specs.FirstFit.{core_figures};
-ghost use Rattle.planner.specs.Steps.{Prioritized, Assigned, Gathered, spread as spreadOver, Rated};
+ghost use Rattle.planner.specs.Steps.{figures_in, Assigned, spread as spreadOver, Rated};
 
-use crate::{Assignment, Rates, TaskSet};
+use crate::{Assignment, store};
+use arrayvec::ArrayVec;
 use figures::CoreFigures;
-use fit::{By, Order};
+use fit::Order;
 
-// The core of task i; 0 past the end.
-fn core_of(cores: [u8; 64], i: u8) -> u8
-    ensures { result ≡ at cores i }
-{
-    if i < 64 {
-        return cores[i as usize];
-    }
-    0
+// A job list of at most 64 entries, and all its tasks in priority order.
+#[derive(Clone, Copy)]
+pub(crate) struct Jobs<'a> {
+    pub(crate) list: &'a [u8],
+    pub(crate) order: &'a [u8],
+    ghost few: { job_count list.now ≤ 64 },
+    ghost tasks: { order.now ≡ order_by Period (job_period list.now) (job_count list.now) },
 }
 
-// The tasks of core k in priority order.
-fn tasks_on(order: &[u8], cores: [u8; 64], k: u8) -> Order
-    requires { length order.now ≤ 64 }
-    ensures { result.items ≡ select (is_on (at cores) k) order.now }
-{
-    let mut list = Order::new();
-    for &i in order {
-        if core_of(cores, i) == k {
-            list.push(i);
-        }
-    }
-    list
+// What the sheet has of a core.
+#[derive(Clone, Copy)]
+pub(crate) struct CoreRate {
+    pub(crate) pivot: u16,
+    pub(crate) divisor: u32,
 }
 
-// All tasks in priority order or in ring order.
-pub(crate) fn tasks_by(by: By, jobs: &[u8], n: u8) -> Order
-    requires { (n ≡ job_count jobs.now) × (n ≤ 64) }
-    ensures { result.items ≡ order_by by (job_period jobs.now) (job_count jobs.now) }
-{
-    jobs::in_order(by, jobs, n)
+// The rates of the open cores by number, and factors by task number.
+#[derive(Clone, Copy)]
+pub(crate) struct Rates {
+    pub(crate) cores: [CoreRate; 8],
+    pub(crate) factors: [u32; 64],
 }
 
-// The periods and budgets of listed tasks.
-fn task_set(jobs: &[u8], list: &[u8]) -> TaskSet
+const NO_RATE: CoreRate = CoreRate {
+    pivot: 0,
+    divisor: 0,
+};
+
+// The figures of a core that has none.
+const NO_FIGURES: CoreFigures = CoreFigures {
+    pivot: 0,
+    divisor: 0,
+    factors: [0; 64],
+};
+
+// Puts a core's own factors at the numbers of its listed tasks.
+fn spread(factors: &mut [u32; 64], list: &[u8], own: &[u32; 64])
     requires { length list.now ≤ 64 }
-    ensures { Gathered jobs.now list.now result }
+    ensures { factors.new ≡ spreadOver own.now list.now 0 factors.old }
 {
-    let mut periods = [0u16; 64];
-    let mut budgets = [0u16; 64];
-    let mut j = 0;
-    while j < list.len() {
-        let i = list[j];
-        periods[j] = jobs::period(jobs, i);
-        budgets[j] = jobs::budget(jobs, i);
-        j += 1;
+    for (place, &i) in list.iter().enumerate() {
+        store(factors, i, own[place]);
     }
-    TaskSet { periods, budgets }
 }
 
-// The figures of core k, if its tasks pass.
-pub(crate) fn figures_on(jobs: &[u8], order: &[u8], cores: [u8; 64], k: u8) -> Option<CoreFigures>
-    requires { Prioritized jobs.now order.now }
-    ensures { result ≡ outcome (core_figures (job_period jobs.now) (job_budget jobs.now) (job_count jobs.now) cores k) }
-{
-    let list = tasks_on(order, cores, k);
-    let found = task_set(jobs, list.as_slice());
-    let periods = found.periods;
-    let budgets = found.budgets;
-    figures::first_passing(&periods[..list.len()], &budgets[..list.len()])
-}
-
-// The factors with that of task i.
-fn with_factor(factors: [u32; 64], i: u8, m: u32) -> [u32; 64]
-    ensures { result ≡ set factors i m }
-{
-    let mut next = factors;
-    if i < 64 {
-        next[i as usize] = m;
+impl Jobs<'_> {
+    // How many jobs there are.
+    #[tactic(auto, unfolding(jobs::specs::Jobs::job_count))]
+    pub(crate) fn count(&self) -> u8
+        ensures { result ≡ job_count self.now.list.now }
+    {
+        (self.list.len() / 4) as u8
     }
-    next
-}
 
-// The factors by task number, with a core's own put at the numbers of its tasks.
-fn spread(factors: [u32; 64], list: &[u8], own: [u32; 64]) -> [u32; 64]
-    requires { length list.now ≤ 64 }
-    ensures { result ≡ spreadOver own list.now 0 factors }
-{
-    let mut next = factors;
-    let mut m = 0;
-    while m < list.len() {
-        let after = with_factor(next, list[m], own[m]);
-        next = after;
-        m += 1;
-    }
-    next
-}
-
-// The figures of all cores.
-pub(crate) fn rates_of(jobs: &[u8], order: &[u8], a: Assignment) -> Rates
-    requires { Prioritized jobs.now order.now × Assigned jobs.now a }
-    ensures { Rated jobs.now a result }
-{
-    let cores = a.core;
-    let opened = a.cores;
-    let mut pivots = [0u16; 8];
-    let mut divisors = [0u32; 8];
-    let mut factors = [0u32; 64];
-    let mut k = 0;
-    while k < opened {
-        if let Some(figures) = figures_on(jobs, order, cores, k) {
-            let list = tasks_on(order, cores, k);
-            pivots[k as usize] = figures.pivot;
-            divisors[k as usize] = figures.divisor;
-            factors = spread(factors, list.as_slice(), figures.factors);
+    // The tasks of core k in priority order.
+    #[tactic(auto, using(crate::proofs::Gathering::select_on, crate::proofs::Gathering::select_off), unfolding(fit::specs::Lists::select))]
+    fn tasks_on(&self, a: &Assignment, k: u8) -> Order
+        ensures { result.items ≡ select (is_on (at a.now.core) k) self.now.order.now }
+    {
+        let mut tasks = Order::new();
+        for &i in self.order {
+            if a.core_of(i) == k {
+                tasks.push(i);
+            }
         }
-        k += 1;
+        tasks
     }
-    Rates {
-        pivots,
-        divisors,
-        factors,
+
+    // The figures of core k, if its tasks pass.
+    pub(crate) fn figures_on(&self, a: &Assignment, k: u8) -> Option<CoreFigures>
+        ensures { result ≡ outcome (figures_in self.now.list.now a.now.core k) }
+    {
+        let tasks = self.tasks_on(a, k);
+        let mut periods = ArrayVec::<u16, 64>::new();
+        let mut budgets = ArrayVec::<u16, 64>::new();
+        for &i in tasks.as_slice() {
+            periods.push(jobs::period(self.list, i));
+            budgets.push(jobs::budget(self.list, i));
+        }
+        figures::first_passing(periods.as_slice(), budgets.as_slice())
+    }
+
+    // The rates of an assignment.
+    pub(crate) fn rates_of(&self, a: &Assignment) -> Rates
+        requires { Assigned self.now.list.now a.now }
+        ensures { Rated self.now.list.now a.now result }
+    {
+        let mut cores = [NO_RATE; 8];
+        let mut factors = [0; 64];
+        for k in 0..a.cores {
+            let figures = self.figures_on(a, k).unwrap_or(NO_FIGURES);
+            cores[usize::from(k)] = CoreRate {
+                pivot: figures.pivot,
+                divisor: figures.divisor,
+            };
+            let tasks = self.tasks_on(a, k);
+            spread(&mut factors, tasks.as_slice(), &figures.factors);
+        }
+        Rates { cores, factors }
     }
 }

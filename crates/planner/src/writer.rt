@@ -3,104 +3,77 @@ ghost use Rattle.std.specs.Prelude.{◌≡◌, ◌*◌, ◌≤◌, length};
 ghost use Rattle.fit.specs.Lists.{numbers, joined, over};
 ghost use Rattle.jobs.specs.Jobs.{job_count, job_period, job_budget};
 ghost use Rattle.planner.specs.Sheet.{header, task_record, core_record, sheet_of};
-ghost use Rattle.planner.specs.Steps.{Prioritized, Assigned, task_bytes, core_bytes};
+ghost use Rattle.planner.specs.Steps.{Assigned, task_bytes, core_bytes};
 
-use crate::{Assignment, sets};
+use crate::Assignment;
+use crate::sets::{CoreRate, Jobs};
 
+#[tactic(auto, unfolding(fit::specs::Lists::over, crate::specs::Sheet::header))]
 fn put_header(part: &mut [u8], n: u8, c: u8)
     requires { 8 ≤ length part.old }
     ensures { part.new ≡ over (header n c) part.old }
 {
-    part[0] = 0x54;
-    part[1] = 0x53;
-    part[2] = 0x48;
-    part[3] = 1;
-    part[4] = 0;
-    part[5] = n;
-    part[6] = c;
-    part[7] = 0;
+    part[..8].copy_from_slice(&[b'T', b'S', b'H', 1, 0, n, c, 0]);
 }
 
 fn put_task(part: &mut [u8], p: u16, e: u16, k: u8, m: u32)
     requires { 10 ≤ length part.old }
     ensures { part.new ≡ over (task_record p e k m) part.old }
 {
-    part[0] = (p % 256) as u8;
-    part[1] = (p / 256 % 256) as u8;
-    part[2] = (e % 256) as u8;
-    part[3] = (e / 256 % 256) as u8;
-    part[4] = k;
-    part[5] = 0;
-    part[6] = (m % 256) as u8;
-    part[7] = (m / 256 % 256) as u8;
-    part[8] = (m / 65536 % 256) as u8;
-    part[9] = (m / 65536 / 256 % 256) as u8;
+    let [p0, p1] = p.to_le_bytes();
+    let [e0, e1] = e.to_le_bytes();
+    let [m0, m1, m2, m3] = m.to_le_bytes();
+    part[..10].copy_from_slice(&[p0, p1, e0, e1, k, 0, m0, m1, m2, m3]);
 }
 
-fn put_core(part: &mut [u8], q: u16, d: u32)
+fn put_core(part: &mut [u8], core: CoreRate)
     requires { 8 ≤ length part.old }
-    ensures { part.new ≡ over (core_record q d) part.old }
+    ensures { part.new ≡ over (core_record core.pivot core.divisor) part.old }
 {
-    part[0] = (q % 256) as u8;
-    part[1] = (q / 256 % 256) as u8;
-    part[2] = 0;
-    part[3] = 0;
-    part[4] = (d % 256) as u8;
-    part[5] = (d / 256 % 256) as u8;
-    part[6] = (d / 65536 % 256) as u8;
-    part[7] = (d / 65536 / 256 % 256) as u8;
-}
-
-// The task records. `part` is the output from byte 8.
-fn put_tasks(part: &mut [u8], jobs: &[u8], n: u8, cores: [u8; 64], factors: [u32; 64])
-    requires { (n ≤ 64) × (10 * n ≤ length part.old) }
-    ensures { part.new ≡ over (joined (task_bytes jobs.now cores factors) (numbers 0 n)) part.old }
-{
-    let mut at = 0;
-    let mut i = 0;
-    while i < n {
-        let j = i as usize;
-        put_task(
-            &mut part[at..],
-            jobs::period(jobs, i),
-            jobs::budget(jobs, i),
-            cores[j],
-            factors[j],
-        );
-        at += 10;
-        i += 1;
-    }
+    let [q0, q1] = core.pivot.to_le_bytes();
+    let [d0, d1, d2, d3] = core.divisor.to_le_bytes();
+    part[..8].copy_from_slice(&[q0, q1, 0, 0, d0, d1, d2, d3]);
 }
 
 // The core records, into the part after the last task.
-fn put_cores(part: &mut [u8], c: u8, pivots: [u16; 8], divisors: [u32; 8])
-    requires { (c ≤ 8) × (8 * c ≤ length part.old) }
-    ensures { part.new ≡ over (joined (core_bytes pivots divisors) (numbers 0 c)) part.old }
+fn put_cores(part: &mut [u8], cores: &[CoreRate])
+    requires { 8 * length cores.now ≤ length part.old }
+    ensures { part.new ≡ over (joined (core_bytes cores.now) (numbers 0 (length cores.now))) part.old }
 {
-    let mut at = 0;
-    let mut k = 0;
-    while k < c {
-        let j = k as usize;
-        put_core(&mut part[at..], pivots[j], divisors[j]);
-        at += 8;
-        k += 1;
+    for (k, &core) in cores.iter().enumerate() {
+        put_core(&mut part[8 * k..], core);
     }
 }
 
-// Writes the sheet of an assignment and returns its length.
-pub(crate) fn write_sheet(out: &mut [u8], jobs: &[u8], n: u8, order: &[u8], a: Assignment) -> u16
-    requires { (712 ≤ length out.old) × (n ≡ job_count jobs.now) × Prioritized jobs.now order.now × Assigned jobs.now a }
-    ensures { (result ≡ length (sheet_of (job_period jobs.now) (job_budget jobs.now) (job_count jobs.now) a)) × (out.new ≡ over (sheet_of (job_period jobs.now) (job_budget jobs.now) (job_count jobs.now) a) out.old) }
-{
-    let rates = sets::rates_of(jobs, order, a);
-    let c = a.cores;
-    let cores = a.core;
-    let factors = rates.factors;
-    let pivots = rates.pivots;
-    let divisors = rates.divisors;
-    put_header(out, n, c);
-    put_tasks(&mut out[8..], jobs, n, cores, factors);
-    let at = 8 + 10 * (n as usize);
-    put_cores(&mut out[at..], c, pivots, divisors);
-    (at + 8 * (c as usize)) as u16
+impl Jobs<'_> {
+    // The task records. `part` is the output from byte 8.
+    fn put_tasks(&self, part: &mut [u8], a: &Assignment, factors: &[u32; 64])
+        requires { 10 * job_count self.now.list.now ≤ length part.old }
+        ensures { part.new ≡ over (joined (task_bytes self.now.list.now a.now.core factors.now) (numbers 0 (job_count self.now.list.now))) part.old }
+    {
+        for i in 0..self.count() {
+            let j = usize::from(i);
+            put_task(
+                &mut part[10 * j..],
+                jobs::period(self.list, i),
+                jobs::budget(self.list, i),
+                a.core[j],
+                factors[j],
+            );
+        }
+    }
+
+    // Writes the sheet of an assignment and returns its length.
+    pub(crate) fn write_sheet(&self, a: &Assignment, out: &mut [u8]) -> u16
+        requires { (712 ≤ length out.old) × Assigned self.now.list.now a.now }
+        ensures { let sheet = sheet_of (job_period self.now.list.now) (job_budget self.now.list.now) (job_count self.now.list.now) a.now in (result ≡ length sheet) × (out.new ≡ over sheet out.old) }
+    {
+        let rates = self.rates_of(a);
+        let n = self.count();
+        put_header(out, n, a.cores);
+        self.put_tasks(&mut out[8..], a, &rates.factors);
+        let at = 8 + 10 * usize::from(n);
+        put_cores(&mut out[at..], &rates.cores[..usize::from(a.cores)]);
+        (at + 8 * usize::from(a.cores)) as u16
+    }
 }

@@ -112,6 +112,11 @@ left_of j (suc r) = refl
 pub stroke_written : (s : Core) (i : ℕ) (t : Task) (r n : ℕ) → r ≡ stroke_ticks s.stroke_left t - 1 → n ≡ (stroke_of t.number r).task → record { count = s.count; tasks = set s.tasks i (used t); stroke_task = n; stroke_left = r } ≡ with_stroke (changed s i (used t)) (stroke_ticked (stroke_in s) t)
 stroke_written s i t r n e h = ap (λ n. record { count = s.count; tasks = set s.tasks i (used t); stroke_task = n; stroke_left = r }) h ∙ ap (λ l. record { count = s.count; tasks = set s.tasks i (used t); stroke_task = (stroke_of t.number r).task; stroke_left = l }) (left_of t.number r) ∙ ap (λ r. with_stroke (changed s i (used t)) (stroke_of t.number r)) e
 
+-- what a tick gives where the form is not looked at: what timing's state answers and hands back
+pub record Untested (s : Core) (r : Step) : Type 0 where
+  pub answer : answer_of r.answer ≡ answer tick (state_in s)
+  pub core : r.core ≡ with_state s (next tick (state_in s))
+
 -- 21
 pub op_foreign : (c : Call) (s : Core) (w : Rejection ℕ) (r : Step) → true ≡ foreign s → w ≡ record { word = Foreign; place = 0 } → r ≡ refusal s w → Operation c s r
 unfolding ask step
@@ -136,6 +141,10 @@ module _ (s : Core) (x : foreign s ≡ false) (room : length s.tasks ≡ 64) whe
   native_step : (c : Call) → step c s ≡ with_state s (next c (state_in s))
   unfolding step
   native_step c = rw x
+
+  -- what timing's state gives is what a tick of a state in form gives
+  pub tick_in_form : (r : Step) → Untested s r → Operation tick s r
+  tick_in_form r u = record { answer = u.answer ∙ sym (native_ask tick); core = u.core ∙ sym (native_step tick) }
 
   module _ (q : Task → Bool) (i : ℕ) (at : i ≡ place_of q (tasks_of s)) where
     hit : i < s.count → Found q (tasks_of s) i
@@ -176,7 +185,7 @@ module _ (s : Core) (x : foreign s ≡ false) (room : length s.tasks ≡ 64) whe
     unfolding answer next answer_by next_by next_stroke
     tick_idles h =
         let m = miss who i at h in
-        record { answer = sym (native_ask tick ∙ m.answers tick_answer idle); core = k ∙ sym (native_step tick ∙ ap (λ l. with_state s (record { tasks = map older l; stroke = next_stroke tick (state_in s) })) (m.changes used) ∙ ap (λ (v : Stroke). with_state s (record { tasks = map older (tasks_of s); stroke = v })) (m.answers (stroke_ticked (stroke_in s)) (stroke_in s))) }
+        tick_in_form _ (record { answer = sym (m.answers tick_answer idle); core = k ∙ sym (ap (λ l. with_state s (record { tasks = map older l; stroke = next_stroke tick (state_in s) })) (m.changes used) ∙ ap (λ (v : Stroke). with_state s (record { tasks = map older (tasks_of s); stroke = v })) (m.answers (stroke_ticked (stroke_in s)) (stroke_in s))) })
 
     -- it goes to the first task that may have it
     module _ (h : i < s.count) where
@@ -197,10 +206,10 @@ module _ (s : Core) (x : foreign s ≡ false) (room : length s.tasks ≡ 64) whe
           let m = hit who i at h in
           let front : set v.tasks i (used (nth v.tasks i)) ≡ map older (modify who used (tasks_of s)) ++ drop s.count s.tasks = ap (λ t. set v.tasks i (used t)) aged_task ∙ ap (λ u. set u.tasks i (used (older old))) k ∙ set-append_left (map older (tasks_of s)) (drop s.count s.tasks) i (used (older old)) (simp length-map (omega (arith, many))) ∙ ap (λ l. l ++ drop s.count s.tasks) (sym (map_set older (tasks_of s) i (used old)) ∙ ap (map older) (sym (m.changes used))) in
           let own : stroke_ticked (stroke_in v) (nth v.tasks i) ≡ next_stroke tick (state_in s) = ap (stroke_ticked (stroke_in v)) aged_task ∙ ap (λ u. stroke_ticked (stroke_in u) (older old)) k ∙ ap (λ n. stroke_of old.number (n - 1)) (ticks_older s.stroke_left old) ∙ sym (m.answers (stroke_ticked (stroke_in s)) (stroke_in s)) in
-          record {
-            answer = ap served (y ∙ ap (λ t. t.number) aged_task) ∙ sym (native_ask tick ∙ m.answers tick_answer idle);
-            core = z ∙ state_is _ s.count _ _ _ (ap (λ u. u.count) k) front (ap (λ (u : Stroke). u.task) own) (ap (λ (u : Stroke). u.left) own) ∙ sym (native_step tick);
-          }
+          tick_in_form _ (record {
+            answer = ap served (y ∙ ap (λ t. t.number) aged_task) ∙ sym (m.answers tick_answer idle);
+            core = z ∙ state_is _ s.count _ _ _ (ap (λ u. u.count) k) front (ap (λ (u : Stroke). u.task) own) (ap (λ (u : Stroke). u.left) own);
+          })
 
 -- the place of a named task, as the code looks for it
 module _ (s : Core) (j : ℕ) (room : length s.tasks ≡ 64) where

@@ -3,13 +3,13 @@ use Rattle.dispatcher.proofs.Starts.{list_refused, list_few, list_fits, list_sta
 use Rattle.dispatcher.proofs.start_list.Goals as goal
 
 pub overflow_cast-n : goal.overflow_cast-n
-overflow_cast-n c = search list_fits
+overflow_cast-n c = search (list_fits, rules)
 
 pub of_list-requires : goal.of_list-requires
 of_list-requires c = search (list_few, rules)
 
-pub returns-in-Broken : goal.returns-in-Broken
-returns-in-Broken c = search (list_refused, rules)
+pub returns-in-Err : goal.returns-in-Err
+returns-in-Err c = search (list_refused, rules)
 
-pub returns-in-Clear : goal.returns-in-Clear
-returns-in-Clear c = search (list_starts, rules)
+pub returns : goal.returns
+returns c = search (list_starts, rules)

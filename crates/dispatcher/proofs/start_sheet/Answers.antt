@@ -1,21 +1,24 @@
 use Rattle.std.proofs.Common.{rules}
-use Rattle.dispatcher.proofs.Starts.{sheet_refused, sheet_no_core, sheet_header, sheet_few, sheet_records, sheet_starts, sheet_timely, refused_timely}
+use Rattle.dispatcher.proofs.Starts.{sheet_refused, sheet_no_core, sheet_header, sheet_few, sheet_records, sheet_starts, sheet_timely}
 use Rattle.dispatcher.proofs.start_sheet.Goals as goal
 
-pub returns-then-cores-core : goal.returns-then-cores-core
-returns-then-cores-core c = record { sheet_start = search (sheet_no_core, rules); on_time = search (refused_timely, rules) }
+pub returns-in-Err-clause-sheet_start : goal.returns-in-Err-clause-sheet_start
+returns-in-Err-clause-sheet_start c = search (sheet_refused, rules)
+
+pub returns-then-from-core-clause-sheet_start : goal.returns-then-from-core-clause-sheet_start
+returns-then-from-core-clause-sheet_start c = sheet_no_core _ _ _ c.check.ensures c.in-Ok.counts c.in-Ok.is _ c.from.ensures c.at.result c.empty-then-from-core.result _ (search rules) (search rules) (search rules) (search rules)
 
 pub slice_bounds-of_core-count : goal.slice_bounds-of_core-count
-slice_bounds-of_core-count c = search (sheet_header, rules)
+slice_bounds-of_core-count c = sheet_header _ c.args.core _ c.check.ensures c.in-Ok.counts c.in-Ok.is _ c.from.ensures (search rules)
 
 pub slice_bounds-of_core-start : goal.slice_bounds-of_core-start
-slice_bounds-of_core-start c = search (sheet_header, rules)
+slice_bounds-of_core-start c = search (slice_bounds-of_core-count c, rules)
 
 pub of_core-requires : goal.of_core-requires
-of_core-requires c = (search (sheet_few, rules), search (sheet_records, rules))
+of_core-requires c = (sheet_few _ c.args.core _ c.check.ensures c.in-Ok.counts c.in-Ok.is _ c.from.ensures (search rules), sheet_records _ c.args.core _ c.check.ensures c.in-Ok.counts c.in-Ok.is _ c.from.ensures (search rules))
 
-pub returns-in-Refused : goal.returns-in-Refused
-returns-in-Refused c = record { sheet_start = search (sheet_refused, rules); on_time = search (refused_timely, rules) }
+pub returns-clause-sheet_start : goal.returns-clause-sheet_start
+returns-clause-sheet_start c = sheet_starts _ _ _ c.check.ensures c.in-Ok.counts c.in-Ok.is _ c.from.ensures (search rules) _ _ _ c.is_grouped-grouped.ensures c.is_stroked-stroked.ensures (search rules)
 
-pub returns-else-cores-core : goal.returns-else-cores-core
-returns-else-cores-core c = record { sheet_start = search (sheet_starts, rules); on_time = search (sheet_timely, rules) }
+pub returns-clause-on_time : goal.returns-clause-on_time
+returns-clause-on_time c = sheet_timely _ _ _ c.check.ensures c.in-Ok.counts c.in-Ok.is _ c.from.ensures (search rules) _ _ _ c.is_grouped-grouped.ensures c.is_stroked-stroked.ensures (search rules)

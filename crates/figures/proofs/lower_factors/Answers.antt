@@ -5,11 +5,8 @@ use Rattle.figures.proofs.lower_factors.Goals as goal
 pub loop-i-init : goal.loop-i-init
 loop-i-init c = search (lower_start, rules)
 
-pub nonzero_div-factors : goal.nonzero_div-factors
-nonzero_div-factors c = search (c.requires.1, rules)
-
 pub loop-i-preserved : goal.loop-i-preserved
-loop-i-preserved c = (search rules, search (lower_turn, rules))
+loop-i-preserved c = search (lower_turn, rules)
 
-pub returns : goal.returns
-returns c = search (lower_end, rules)
+pub returns-2 : goal.returns-2
+returns-2 c = search (lower_end, rules)

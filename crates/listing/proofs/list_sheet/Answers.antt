@@ -1,15 +1,13 @@
-use Rattle.std.proofs.Common.{rules}
-use Rattle.listing.proofs.Sheets.{tight_answer, tight_bytes, refused_answer, refused_bytes, is_accepted_lem, accepted_answer, accepted_bytes}
+use Rattle.listing.proofs.Sheets.{tight_out, refused_out, accepted_out}
 use Rattle.listing.proofs.list_sheet.Goals as goal
+use Rattle.listing.proofs.list_sheet.Goals.{in-Err, in-Ok}
 
-pub returns-then-out-lt8192 : goal.returns-then-out-lt8192
-returns-then-out-lt8192 c = (search tight_answer, search tight_bytes)
+pub returns-then-out-lt8192-clause-listed : goal.returns-then-out-lt8192-clause-listed
+returns-then-out-lt8192-clause-listed c = rw c.at.ensures (tight_out _ _ c.if-out-lt8192.true)
 
-pub put_sheet-requires : goal.put_sheet-requires
-put_sheet-requires c = (search is_accepted_lem, search rules)
-
-pub returns-in-Refused : goal.returns-in-Refused
-returns-in-Refused c = (search refused_answer, search refused_bytes)
-
-pub returns-in-Accepted : goal.returns-in-Accepted
-returns-in-Accepted c = (search accepted_answer, search accepted_bytes)
+pub returns-clause-listed : goal.returns-clause-listed
+returns-clause-listed c =
+    elim c.match-check.branch [
+      | in-Err w ↦ rw (w.out-is, w.length-is) (refused_out _ _ _ _ _ c.if-out-lt8192.false c.check.ensures _ _ _ _ w.in-Err.is w.from.ensures w.refused_line.ensures (rw w.deref.ensures.0 at w.put-length.ensures))
+      | in-Ok w ↦ rw (w.out-is, w.length-is) (accepted_out _ _ _ _ _ c.if-out-lt8192.false c.check.ensures _ w.in-Ok.is w.put_sheet-length.ensures)
+    ]

@@ -7,7 +7,7 @@ pub loop-k-init : goal.loop-k-init
 loop-k-init c = search (lay_start, rules)
 
 pub loop-k-preserved : goal.loop-k-preserved
-loop-k-preserved c = (search rules, search (core_turn, rules))
+loop-k-preserved c = search (core_turn, rules)
 
 pub returns : goal.returns
-returns c = search lay_end
+returns c = search (lay_end, rules)

@@ -1,40 +1,8 @@
-use Rattle.std.proofs.Common.{rules}
-use native.Mathlib.Omega.{arith}
-use lib.ListN.{length-set}
-use Rattle.fit.proofs.Laying.{stores}
+use Rattle.fit.specs.Lists.{over}
 use Rattle.planner.specs.Sheet.{two, four, task_record}
+use Rattle.planner.proofs.Writing.{high_byte}
 use Rattle.planner.proofs.writer.put_task.Goals as goal
 
-pub bounds-part-1 : goal.bounds-part-1
-bounds-part-1 c = simp length-set (omega arith)
-
-pub bounds-part-2 : goal.bounds-part-2
-bounds-part-2 c = simp length-set (omega arith)
-
-pub bounds-part-3 : goal.bounds-part-3
-bounds-part-3 c = simp length-set (omega arith)
-
-pub bounds-part-4 : goal.bounds-part-4
-bounds-part-4 c = simp length-set (omega arith)
-
-pub bounds-part-5 : goal.bounds-part-5
-bounds-part-5 c = simp length-set (omega arith)
-
-pub bounds-part-6 : goal.bounds-part-6
-bounds-part-6 c = simp length-set (omega arith)
-
-pub bounds-part-7 : goal.bounds-part-7
-bounds-part-7 c = simp length-set (omega arith)
-
-pub bounds-part-8 : goal.bounds-part-8
-bounds-part-8 c = simp length-set (omega arith)
-
-pub bounds-part-9 : goal.bounds-part-9
-bounds-part-9 c = simp length-set (omega arith)
-
-pub shape_of-part : goal.shape_of-part
-shape_of-part c = simp length-set
-
 pub returns : goal.returns
-unfolding two four task_record
-returns c = stores _ _ (search rules)
+unfolding over two four task_record
+returns c = rw (c.copy_from_slice.ensures.after, c.to_le_bytes.ensures, c.to_le_bytes-2.ensures, c.to_le_bytes-3.ensures, high_byte)
