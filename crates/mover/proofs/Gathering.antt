@@ -15,9 +15,7 @@ use Rattle.fit.specs.Priority.{order}
 use Rattle.fit.proofs.Lists.{zeros, padded_length}
 use Rattle.order.specs.Cores.{on_cores, ByCore, end_on}
 use Rattle.order.proofs.Cutting.{no_cores, cores_next, cut_end, cut_part, cut_rises, cut_inside}
-use Rattle.mover.specs.Moved.{bytes}
 use Rattle.mover.specs.Steps.{grouped_by, Arranged}
-use Rattle.mover.proofs.Fields.{bytes_take}
 
 -- zeros past what is laid over them change nothing that is read by place
 over_zeros : (l : List ℕ) (i : ℕ) → at (over l (replicate 64 0)) i ≡ at l i
@@ -91,11 +89,12 @@ module _ (p core : ℕ → ℕ) (n : ℕ) (list : List ℕ) (k a : ℕ) (counts 
       by j b (yes z) = rw z (get_or-set_same counts k (end - a) 0 (omega (arith, d.cores)) ∙ own)
       by j b (no z) = get_or-set_other counts k j (end - a) 0 z ∙ d.count j (lt_of_le-ne (omega arith) z)
 
-pub gather_end : (p core : ℕ → ℕ) (n m c k a : ℕ) (list from counts : List ℕ) → k ≤ c → c ≤ k → Gathered p core n list k a counts → from ≡ over (bytes list 0 a) (replicate 64 0) → Arranged (grouped_by p core n c) m c (record { version = 2; from = from; byte4 = from; counts = counts })
-unfolding on_cores
-gather_end p core n m c k a list from counts x y d e = record { version = refl; from = λ i h. looked i; byte4 = λ i h. looked i; count = λ j h. d.count j (omega arith) }
+pub gather_end : (p core : ℕ → ℕ) (n m c k a : ℕ) (list taken counts : List ℕ) → k ≤ c → c ≤ k → Gathered p core n list k a counts → taken ≡ take a list → Arranged (grouped_by p core n c) m c (record { version = 2; from = taken ++ drop a (replicate 64 0); byte4 = taken ++ drop a (replicate 64 0); counts = counts })
+unfolding on_cores over
+gather_end p core n m c k a list taken counts x y d e = record { version = refl; from = λ i h. looked i; byte4 = λ i h. looked i; count = λ j h. d.count j (omega arith) }
   where
-    looked : (i : ℕ) → get_or from i 0 ≡ at (on_cores p core c n) i
+    looked : (i : ℕ) → get_or (taken ++ drop a (replicate 64 0)) i 0 ≡ at (on_cores p core c n) i
     looked i =
         let same : k ≡ c = omega arith in
-        rw (e, over_zeros, bytes_take list 0 a (omega (arith, d.size, d.room, d.few)), d.tasks, same)
+        let size : length (take a list) ≡ a = length-take-le a list (omega (arith, d.size, d.room, d.few)) in
+        rw (e, ← same, ← d.tasks) (rw size at (over_zeros (take a list) i))

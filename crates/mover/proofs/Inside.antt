@@ -14,15 +14,15 @@ use Rattle.fit.specs.Lists.{over}
 use Rattle.checker.specs.Verdict as check
 use Rattle.checker.proofs.Long.{verdict_cut}
 use Rattle.checker.specs.Tests.{is_marked}
-use Rattle.mover.specs.declared.Moved.{Moved}
-use Rattle.mover.specs.declared.Moved.TheVariants.{Written}
+use Rattle.std.specs.Prelude.{Result, Ok}
+use Rattle.sheet.specs.declared.Rejection.{Rejection}
 use Rattle.mover.specs.Moved.{moved}
 use Rattle.mover.specs.Steps.{unmovable}
 use Rattle.mover.proofs.Verdicts.{unmovable_verdict, movable_verdict}
 use Rattle.mover.specs.Answers.{written, refused, move_verdict, move_answer, move_output, answer_of}
 
 -- a written sheet, and that front of the buffer is as long
-module _ (s out new : List ℕ) (r : Moved) (x : ℕ) (q : r ≡ Written x) (e : answer_of r ≡ move_answer (move_verdict s) s (length out)) (b : new ≡ move_output (move_verdict s) s out) where
+module _ (s out new : List ℕ) (r : Result ℕ (Rejection ℕ)) (x : ℕ) (q : r ≡ Ok x) (e : answer_of r ≡ move_answer (move_verdict s) s (length out)) (b : new ≡ move_output (move_verdict s) s out) where
   pub moved_inside : x ≤ length new
   unfolding move_answer move_output over
   moved_inside = by (move_verdict s) (ap answer_of (sym q) ∙ e) b

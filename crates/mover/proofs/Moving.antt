@@ -7,7 +7,7 @@ use mathlib.Core.List.{List}
 use native.Mathlib.Omega.{arith}
 use lib.ListN.{length, drop}
 use lib.Seq.{take_at}
-use Rattle.sheet.specs.declared.Refusal.{Refusal}
+use Rattle.sheet.specs.declared.Rejection.{Rejection}
 use Rattle.sheet.specs.Records.{task_count, core_count}
 use Rattle.sheet.specs.Views.{is_grouped, is_stroked}
 use Rattle.fit.specs.Lists.{over}
@@ -15,7 +15,7 @@ use Rattle.checker.specs.Verdict as check
 use Rattle.checker.specs.Verdict.{verdict}
 use Rattle.checker.specs.Accepted.{Acceptable}
 use Rattle.checker.proofs.Acceptance.{accepted_exactly}
-use Rattle.mover.specs.declared.Moved.TheVariants.{Written, Refused}
+use Rattle.std.specs.Prelude.{Ok, Err}
 use Rattle.mover.specs.Moved.{version1, version2, moved}
 use Rattle.mover.specs.Meaning.{Moves, Moving}
 use Rattle.mover.proofs.Agreeing.{version1_ungrouped, version1_unstroked, version2_grouped, version2_unstroked, version2_agree}
@@ -62,10 +62,10 @@ pub moved_back : (s : List ℕ) (n c : ℕ) → is_stroked s ≡ false → verdi
 moved_back s n c u v = (moves s n c u v).back
 
 -- a refusal says nothing, and what is written is the moved sheet
-pub refused_moving : (s new : List ℕ) (w : Refusal) (p : ℕ) → Moving s (Refused w p) new
-refused_moving s new w p = record { moves = λ size e. absurd (let z : ◌≡◌ {A = ℕ} 0 1 = cc in omega arith) }
+pub refused_moving : (s new : List ℕ) (r : Rejection ℕ) → Moving s (Err r) new
+refused_moving s new r = record { moves = λ size e. absurd (let z : ◌≡◌ {A = ℕ} 0 1 = cc in omega arith) }
 
-pub written_moving : (s out new : List ℕ) (n c r : ℕ) → is_stroked s ≡ false → verdict s ≡ check.accepted n c → r ≡ length (moved s) → new ≡ over (moved s) out → Moving s (Written r) new
+pub written_moving : (s out new : List ℕ) (n c r : ℕ) → is_stroked s ≡ false → verdict s ≡ check.accepted n c → r ≡ length (moved s) → new ≡ over (moved s) out → Moving s (Ok r) new
 unfolding over
 written_moving s out new n c r u v e b = record {
   moves = λ size w.

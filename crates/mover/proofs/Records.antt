@@ -6,8 +6,7 @@ use mathlib.Core.List.{List, [], ◌∷◌, ◌++◌}
 use native.Mathlib.Nat.{add-zero}
 use native.Mathlib.Numerals.{add-one}
 use native.Mathlib.Omega.{arith}
-use lib.ListN.{length, take, drop, get_or, set, length-append, length-set}
-use lib.Seq.{take_at}
+use lib.ListN.{length, take, drop, get_or, set, length-set}
 use borrow.Rule.Slice.PartMut.{put_mid}
 use Rattle.fit.specs.Lists.{over}
 use Rattle.fit.proofs.Laying.{Laid, lay_turn}
@@ -44,14 +43,12 @@ copy_end from a l n i now p q d =
     let same : i ≡ n = omega arith in
     rw (← same) d.bytes
 
--- bytes that are copied over the front of a list, and from there
-pub copy_through : (from : List ℕ) (a : ℕ) (z mid l : List ℕ) (n : ℕ) (now : List ℕ) → mid ≡ over (bytes from a n) z → now ≡ over (bytes mid 0 n) l → now ≡ over (bytes from a n) l
+-- bytes that are copied at once
+pub copied_part : (from l new : List ℕ) (a n : ℕ) → a + n ≤ length from → new ≡ take (a + n - a) (drop a from) → new ++ drop n l ≡ over (bytes from a n) l
 unfolding over
-copy_through from a z mid l n now p e =
-    let b : List ℕ = bytes from a n in
-    let size : length b ≡ n = bytes_length from a n in
-    let same : bytes mid 0 n ≡ b = ap (λ (s : List ℕ). bytes s 0 n) p ∙ bytes_take (b ++ drop (length b) z) 0 n (simp length-append (omega (arith, size))) ∙ take_at b (drop (length b) z) n size in
-    e ∙ ap (λ (t : List ℕ). t ++ drop (length t) l) same
+copied_part from l new a n h e =
+    let z : a + n - a ≡ n = omega arith in
+    rw (bytes_length from a n, bytes_take from a n h, e, z)
 
 -- the records
 pub header_bytes : (s l : List ℕ) (v : ℕ) (now : List ℕ) → now ≡ over (bytes s 0 8) l → set (set now 3 v) 4 0 ≡ over (header_with s v) l
@@ -83,12 +80,16 @@ unfolding bytes core_with core_bytes
 core_size s counts k = refl
 
 -- one more task record, and one more core record
-module _ (s from byte4 : List ℕ) (n i a : ℕ) (before xs : List ℕ) (h : i < n) (room : 10 * n ≤ length before) (d : Laid (task_bytes s from byte4) 10 before i a xs) where
-  pub task_turn : (ys : List ℕ) → ys ≡ over (task_with s (get_or from i 0) (get_or byte4 i 0)) (take (length xs - a) (drop a xs)) → Laid (task_bytes s from byte4) 10 before (i + 1) (a + 10) (put_mid a (length xs - a) xs ys)
+module _ (s from byte4 : List ℕ) (n i : ℕ) (before xs : List ℕ) (h : i < n) (room : 10 * n ≤ length before) (d : Laid (task_bytes s from byte4) 10 before i (10 * i) xs) where
+  pub task_turn : (ys : List ℕ) → ys ≡ over (task_with s (get_or from i 0) (get_or byte4 i 0)) (take (length xs - 10 * i) (drop (10 * i) xs)) → Laid (task_bytes s from byte4) 10 before (i + 1) (10 * (i + 1)) (put_mid (10 * i) (length xs - 10 * i) xs ys)
   unfolding task_bytes
-  task_turn ys q = lay_turn (task_bytes s from byte4) 10 (task_size s from byte4) n i a before xs ys h room d q
+  task_turn ys q =
+      let z : 10 * (i + 1) ≡ 10 * i + 10 = omega arith in
+      rw z (lay_turn (task_bytes s from byte4) 10 (task_size s from byte4) n i (10 * i) before xs ys h room d q)
 
-module _ (s counts : List ℕ) (c k a : ℕ) (before xs : List ℕ) (h : k < c) (room : 8 * c ≤ length before) (d : Laid (core_bytes s counts) 8 before k a xs) where
-  pub core_turn : (ys : List ℕ) → ys ≡ over (core_with s k (get_or counts k 0)) (take (length xs - a) (drop a xs)) → Laid (core_bytes s counts) 8 before (k + 1) (a + 8) (put_mid a (length xs - a) xs ys)
+module _ (s counts : List ℕ) (c k a : ℕ) (before xs : List ℕ) (h : k < c) (room : 8 * c ≤ length before) (e : a ≡ 8 * k) (d : Laid (core_bytes s counts) 8 before k (8 * k) xs) where
+  pub core_turn : (ys : List ℕ) → ys ≡ over (core_with s k (get_or counts k 0)) (take (length xs - a) (drop a xs)) → Laid (core_bytes s counts) 8 before (k + 1) (8 * (k + 1)) (put_mid a (length xs - a) xs ys)
   unfolding core_bytes
-  core_turn ys q = lay_turn (core_bytes s counts) 8 (core_size s counts) c k a before xs ys h room d q
+  core_turn ys q =
+      let z : 8 * (k + 1) ≡ a + 8 = omega arith in
+      rw z (lay_turn (core_bytes s counts) 8 (core_size s counts) c k a before xs ys h room (rw (← e) at d) q)

@@ -3,7 +3,8 @@ use Rattle.std.specs.Prelude.{ℕ, ◌≡◌, false, not, List, take}
 use Rattle.sheet.specs.Views.{is_grouped, is_stroked, figures}
 use Rattle.views.specs.Renamed.{Agree}
 use Rattle.checker.specs.Verdict.{accepted, verdict}
-use Rattle.mover.specs.declared.Moved.{Moved}
+use Rattle.std.specs.Prelude.{Result}
+use Rattle.sheet.specs.declared.Rejection.{Rejection}
 use Rattle.mover.specs.Moved.{moved}
 use Rattle.mover.specs.Answers.{written, answer_of}
 
@@ -17,5 +18,5 @@ pub record Moves (s t : List ℕ) (n c : ℕ) : Type 0 where
   pub back : moved t ≡ s
 
 -- where the mover answers that it has written so many bytes, the sheet is accepted and they are such a sheet
-pub record Moving (s : List ℕ) (r : Moved) (out : List ℕ) : Type 0 where
+pub record Moving (s : List ℕ) (r : Result ℕ (Rejection ℕ)) (out : List ℕ) : Type 0 where
   pub moves : (size : ℕ) → answer_of r ≡ written size → (n : ℕ) × (c : ℕ) × (verdict s ≡ accepted n c) × Moves s (take size out) n c

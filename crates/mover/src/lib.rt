@@ -25,34 +25,17 @@ struct Arrangement {
 
 // Each writer puts its bytes at the front of the part that it is lent.
 
-// The n bytes of a slice from offset a on, which it has.
-fn copy_inside(part: &mut [u8], from: &[u8], a: usize, n: usize)
-    requires { (n ≤ length part.old) × (a + n ≤ length from.now) }
-    ensures { part.new ≡ over (bytes from.now a n) part.old }
-{
-    let mut i = 0;
-    while i < n {
-        part[i] = from[a + i];
-        i += 1;
-    }
-}
-
-// The n bytes of a slice from offset a on; past its end there are zeros. Where it has all n and n is at most 64, they are all read before
-// the first is written, so that the compiler copies them by words.
+// The n bytes of a slice from offset a on; past its end there are zeros.
 fn copy(part: &mut [u8], from: &[u8], a: usize, n: usize)
     requires { (n ≤ length part.old) × (a ≤ 65536) }
     ensures { part.new ≡ over (bytes from.now a n) part.old }
 {
-    if n <= 64 && a + n <= from.len() {
-        let mut bytes = [0u8; 64];
-        copy_inside(&mut bytes, from, a, n);
-        copy_inside(part, &bytes, 0, n);
+    if let Some(source) = from.get(a..a + n) {
+        part[..n].copy_from_slice(source);
         return;
     }
-    let mut i = 0;
-    while i < n {
+    for i in 0..n {
         part[i] = sheet::byte(from, a + i);
-        i += 1;
     }
 }
 
@@ -88,13 +71,8 @@ fn put_tasks(part: &mut [u8], tasks: &[u8], n: u8, from: [u8; 64], byte4: [u8; 6
     requires { (n ≤ 64) × (10 * n ≤ length part.old) }
     ensures { part.new ≡ over (joined (task_bytes tasks.now from byte4) (numbers 0 n)) part.old }
 {
-    let mut at = 0;
-    let mut i = 0;
-    while i < n {
-        let j = i as usize;
-        put_task(&mut part[at..], tasks, from[j], byte4[j]);
-        at += 10;
-        i += 1;
+    for i in 0..usize::from(n) {
+        put_task(&mut part[10 * i..], tasks, from[i], byte4[i]);
     }
 }
 
@@ -103,12 +81,9 @@ fn put_cores(part: &mut [u8], cores: &[u8], c: u8, counts: [u8; 8])
     requires { (c ≤ 8) × (8 * c ≤ length part.old) }
     ensures { part.new ≡ over (joined (core_bytes cores.now counts) (numbers 0 c)) part.old }
 {
-    let mut at = 0;
-    let mut k = 0;
-    while k < c {
-        put_core(&mut part[at..], cores, k, counts[k as usize]);
-        at += 8;
-        k += 1;
+    for k in 0..c {
+        let at = sheet::offset(8, k);
+        put_core(&mut part[at..], cores, k, counts[usize::from(k)]);
     }
 }
 
@@ -117,15 +92,17 @@ fn write_sheet(out: &mut [u8], sheet: &[u8], n: u8, c: u8, arrangement: Arrangem
     requires { (712 ≤ length out.old) × Sized sheet.now n c }
     ensures { (y : Layout) → Arranged y n c arrangement → (result ≡ length (laid_out y sheet.now)) × (out.new ≡ over (laid_out y sheet.now) out.old) }
 {
-    let version = arrangement.version;
-    let from = arrangement.from;
-    let byte4 = arrangement.byte4;
-    let counts = arrangement.counts;
-    let at = 8 + 10 * (n as usize);
+    let Arrangement {
+        version,
+        from,
+        byte4,
+        counts,
+    } = arrangement;
+    let at = 8 + 10 * usize::from(n);
     put_header(out, sheet, version);
     put_tasks(&mut out[8..], &sheet[8..], n, from, byte4);
     put_cores(&mut out[at..], &sheet[at..], c, counts);
-    (at + 8 * (c as usize)) as u16
+    (at + 8 * usize::from(c)) as u16
 }
 
 // What stands in a list at each of the first n places of another, then zeros.
@@ -133,12 +110,9 @@ fn look_up(list: &[u8], places: &[u8], n: u8) -> [u8; 64]
     requires { n ≤ 64 }
     ensures { Column (found list.now places.now) n result }
 {
-    let mut column = [0u8; 64];
-    let mut i = 0;
-    while i < n {
-        let place = sheet::byte(places, i as usize);
-        column[i as usize] = sheet::byte(list, place as usize);
-        i += 1;
+    let mut column = [0; 64];
+    for i in 0..usize::from(n) {
+        column[i] = sheet::byte(list, usize::from(sheet::byte(places, i)));
     }
     column
 }
@@ -149,17 +123,15 @@ fn core_by_core(periods: &[u16], on: &[u8], n: u8, c: u8) -> Arrangement
     ensures { Arranged (grouped_by (at periods.now) (at on.now) (min n 64) c) n c result }
 {
     let list = order::by_core(periods, on, n);
-    let mut from = [0u8; 64];
-    let mut counts = [0u8; 8];
+    let mut from = [0; 64];
+    let mut counts = [0; 8];
     let mut at = 0;
-    let mut k = 0;
-    while k < c {
+    for k in 0..c {
         let end = order::end_on(&list, on, n, at, k);
-        counts[k as usize] = (end - at) as u8;
+        counts[usize::from(k)] = (end - at) as u8;
         at = end;
-        k += 1;
     }
-    copy(&mut from, &list, 0, at);
+    from[..at].copy_from_slice(&list[..at]);
     Arrangement {
         version: 2,
         from,
@@ -174,7 +146,7 @@ fn by_number(sheet: &[u8], n: u8, c: u8) -> Arrangement
     ensures { Arranged (layout1 sheet.now) n c result }
 {
     let tasks = &sheet[8..];
-    let at = 10 * (n as usize);
+    let at = 10 * usize::from(n);
     let cores = &tasks[at..];
     let from = views::positions_of(true, tasks, n);
     let on = views::cores_of(true, tasks, cores, n, c);
@@ -193,7 +165,7 @@ fn by_core(sheet: &[u8], n: u8, c: u8) -> Arrangement
     ensures { Arranged (layout2 sheet.now) n c result }
 {
     let tasks = &sheet[8..];
-    let at = 10 * (n as usize);
+    let at = 10 * usize::from(n);
     let on = views::cores_of(false, tasks, &tasks[at..], n, c);
     let periods = fit::periods_of(tasks, 10, n);
     core_by_core(&periods, &on, n, c)
@@ -213,15 +185,11 @@ fn write_other(out: &mut [u8], sheet: &[u8], n: u8, c: u8) -> u16
 }
 
 // Whether a sheet has its mark and is of version 3, which has no other version.
+#[tactic(auto, unfolding(crate::specs::Steps::unmovable))]
 fn is_unmovable(sheet: &[u8]) -> bool
     ensures { result ≡ unmovable sheet.now }
 {
-    let t = sheet::byte(sheet, 0);
-    let s = sheet::byte(sheet, 1);
-    let h = sheet::byte(sheet, 2);
-    let marked = (t == 0x54) & ((s == 0x53) & (h == 0x48));
-    let stroked = sheet::is_stroked(sheet);
-    !(sheet.len() < 8) & (marked & stroked)
+    sheet.len() >= 8 && checker::is_marked(sheet) && sheet::is_stroked(sheet)
 }
 
 // Writes a sheet of version 1 as one of version 2, and back, into a lent buffer of at least 712 bytes, and returns its length. The bytes past

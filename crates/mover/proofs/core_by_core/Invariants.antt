@@ -1,10 +1,7 @@
-use Prim.Native.Nat.{◌≤◌, ◌-◌, min}
+use Prim.Native.Nat.{min}
 use Rattle.fit.specs.Lists.{at}
 use Rattle.mover.proofs.Gathering.{Gathered}
 use Rattle.mover.proofs.core_by_core.Given as goal
 
 abbrev pub invariant-loop-k : goal.invariant-loop-k
-invariant-loop-k l = (l.k ≤ l.c) × Gathered (at l.periods) (at l.on) (min l.n 64) l.list l.k l.at l.counts
-
-abbrev pub decreases-loop-k : goal.decreases-loop-k
-decreases-loop-k l = l.c - l.k
+invariant-loop-k l = Gathered (at l.periods) (at l.on) (min l.n 64) l.list l.k l.at l.counts

@@ -7,7 +7,7 @@ pub loop-i-init : goal.loop-i-init
 loop-i-init c = search (fill_start, rules)
 
 pub loop-i-preserved : goal.loop-i-preserved
-loop-i-preserved c = (search rules, search (fill_turn, found_at, rules))
+loop-i-preserved c = search (fill_turn, found_at, rules)
 
 pub returns : goal.returns
 returns c = search (fill_end, rules)

@@ -1,19 +1,34 @@
-use Rattle.std.proofs.Common.{rules}
-use Rattle.mover.proofs.Answering.{unmovable_answer, unmovable_output, refused_answer, refused_output, accepted_sized, tight_answer, tight_output, moved_answer, moved_output, moved_moving}
+use Rattle.mover.proofs.Answering.{unmovable_answer, unmovable_output, refused_answer, refused_output, refused_means, accepted_sized, tight_answer, tight_output, moved_answer, moved_output, moved_moving}
 use Rattle.mover.proofs.Moving.{refused_moving}
 use Rattle.mover.proofs.move_sheet.Goals as goal
 
 pub returns-then-is_unmovable : goal.returns-then-is_unmovable
-returns-then-is_unmovable c = record { result_value = search (unmovable_answer, rules); out_after = search (unmovable_output, rules); moves = search (refused_moving, rules) }
+returns-then-is_unmovable c = record {
+  result_value = rw c.at.ensures (unmovable_answer _ _ _ c.is_unmovable.ensures c.if-is_unmovable.true);
+  out_after = unmovable_output _ _ _ c.is_unmovable.ensures c.if-is_unmovable.true;
+  moves = refused_moving _ _ _;
+}
+
+pub returns-in_err-tasks : goal.returns-in_err-tasks
+returns-in_err-tasks c = record {
+  result_value = refused_answer _ _ _ c.is_unmovable.ensures c.if-is_unmovable.false _ c.check.ensures _ c.in_err-tasks.was _ c.from_residual.ensures.1;
+  out_after = refused_output _ _ _ c.is_unmovable.ensures c.if-is_unmovable.false _ c.check.ensures _ c.in_err-tasks.was;
+  moves = refused_means _ _ _ c.is_unmovable.ensures c.if-is_unmovable.false _ c.check.ensures _ c.in_err-tasks.was _ c.from_residual.ensures.1;
+}
 
 pub returns-then-out-lt712 : goal.returns-then-out-lt712
-returns-then-out-lt712 c = record { result_value = search (tight_answer, rules); out_after = search (tight_output, rules); moves = search (refused_moving, rules) }
+returns-then-out-lt712 c = record {
+  result_value = rw c.at-then-out-lt712.ensures (tight_answer _ _ _ c.is_unmovable.ensures c.if-is_unmovable.false _ c.check.ensures _ _ c.in_ok-tasks.was c.if-out-lt712.true);
+  out_after = tight_output _ _ _ c.is_unmovable.ensures c.if-is_unmovable.false _ c.check.ensures _ _ c.in_ok-tasks.was c.if-out-lt712.true;
+  moves = refused_moving _ _ _;
+}
 
 pub write_other-requires : goal.write_other-requires
-write_other-requires c = (search rules, search (accepted_sized, rules))
+write_other-requires c = (c.if-out-lt712.false, accepted_sized c.args.sheet.now c.args.out.now _ c.is_unmovable.ensures c.if-is_unmovable.false _ c.check.ensures _ _ c.in_ok-tasks.was)
 
-pub returns-in-Refused : goal.returns-in-Refused
-returns-in-Refused c = record { result_value = search (refused_answer, rules); out_after = search (refused_output, rules); moves = search (refused_moving, rules) }
-
-pub returns-else-out-lt712 : goal.returns-else-out-lt712
-returns-else-out-lt712 c = record { result_value = search (moved_answer, rules); out_after = search (moved_output, rules); moves = search (moved_moving, rules) }
+pub returns : goal.returns
+returns c = record {
+  result_value = moved_answer c.args.sheet.now c.args.out.now _ c.is_unmovable.ensures c.if-is_unmovable.false _ c.check.ensures _ _ c.in_ok-tasks.was _ c.if-out-lt712.false c.write_other.ensures.0;
+  out_after = moved_output c.args.sheet.now c.args.out.now _ c.is_unmovable.ensures c.if-is_unmovable.false _ c.check.ensures _ _ c.in_ok-tasks.was _ c.if-out-lt712.false c.write_other.ensures.1;
+  moves = moved_moving c.args.sheet.now c.args.out.now _ c.is_unmovable.ensures c.if-is_unmovable.false _ c.check.ensures _ _ c.in_ok-tasks.was _ _ c.write_other.ensures.0 c.write_other.ensures.1;
+}

@@ -1,10 +1,7 @@
-use Prim.Native.Nat.{◌≤◌, ◌-◌}
+use Prim.Native.Nat.{◌*◌}
 use Rattle.fit.proofs.Laying.{Laid}
 use Rattle.mover.specs.Steps.{core_bytes}
 use Rattle.mover.proofs.put_cores.Given as goal
 
 abbrev pub invariant-loop-k : goal.invariant-loop-k
-invariant-loop-k l = (l.k ≤ l.c) × Laid (core_bytes l.cores l.counts) 8 l.initial.part l.k l.at l.part
-
-abbrev pub decreases-loop-k : goal.decreases-loop-k
-decreases-loop-k l = l.c - l.k
+invariant-loop-k l = Laid (core_bytes l.cores l.counts) 8 l.initial.part l.k (8 * l.k) l.part
