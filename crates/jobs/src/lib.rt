@@ -1,12 +1,12 @@
 // The job list: 4-byte entries with a period and a budget, and its refusals (docs/SHEET.md, section 5).
 #![tactic(auto)]
 
-ghost use Rattle.std.specs.Prelude.{◌≡◌, not, ◌||◌, ◌%◌, min, length, ltb, eqb};
+ghost use Rattle.std.specs.Prelude.{◌≡◌, min};
+ghost use Rattle.std.specs.List.{find, range_with_len};
 ghost use Rattle.sheet.specs.Table.{scan, refusal_of};
-ghost use Rattle.fit.specs.Lists.{numbers, find};
+ghost use Rattle.sheet.specs.Ranges.{bad_period, bad_budget};
 ghost use Rattle.fit.specs.Ring.{order_by};
-ghost use Rattle.jobs.specs.Jobs.{job_count, job_period, job_budget, list_rows};
-ghost use Rattle.jobs.specs.Steps.{broken};
+ghost use Rattle.jobs.specs.Jobs.{job_period, job_budget, list_rows};
 
 use fit::{By, Order};
 use sheet::{Refusal, Rejection};
@@ -19,82 +19,51 @@ pub fn in_order(by: By, jobs: &[u8], n: u8) -> Order
     order::sorted(by, &periods, n)
 }
 
-// The fields of an entry that are tested.
-#[derive(Clone, Copy)]
-enum Field {
-    Period,
-    Budget,
-}
-
 // The fields of entry i.
 
 pub fn period(jobs: &[u8], i: u8) -> u16
     ensures { result ≡ job_period jobs.now i }
 {
-    sheet::read_word(jobs, 4 * (i as usize))
+    sheet::read_word(jobs, 4 * usize::from(i))
 }
 
 pub fn budget(jobs: &[u8], i: u8) -> u16
     ensures { result ≡ job_budget jobs.now i }
 {
-    sheet::read_word(jobs, 4 * (i as usize) + 2)
+    sheet::read_word(jobs, 4 * usize::from(i) + 2)
 }
 
-// Whether a field of entry i is out of range.
-fn is_broken(field: Field, jobs: &[u8], i: u8) -> bool
-    ensures { result ≡ broken field jobs.now i }
+// The first of n entries whose period is not 1 to 60,000.
+#[tactic(auto, unfolding(sheet::specs::Ranges::bad_period))]
+fn first_bad_period(jobs: &[u8], n: u8) -> Option<u8>
+    ensures { result ≡ find (bad_period (job_period jobs.now)) (range_with_len 0 n) }
 {
-    let p = period(jobs, i);
-    match field {
-        Field::Period => sheet::out_of(60_000, p as u32),
-        Field::Budget => sheet::out_of(p as u32, budget(jobs, i) as u32),
-    }
+    (0..n).find(|&i| sheet::out_of(60_000, u32::from(period(jobs, i))))
 }
 
-// The first of n entries at which a field is out of range.
-fn first(field: Field, jobs: &[u8], n: u8) -> Option<u8>
-    ensures { result ≡ find (broken field jobs.now) (numbers 0 n) }
+// The first of n entries whose budget is not 1 to its period.
+#[tactic(auto, unfolding(sheet::specs::Ranges::bad_budget))]
+fn first_bad_budget(jobs: &[u8], n: u8) -> Option<u8>
+    ensures { result ≡ find (bad_budget (job_period jobs.now) (job_budget jobs.now)) (range_with_len 0 n) }
 {
-    let mut i = 0;
-    while i < n {
-        if is_broken(field, jobs, i) {
-            return Some(i);
-        }
-        i += 1;
-    }
-    None
-}
-
-fn is_uneven(jobs: &[u8]) -> bool
-    ensures { result ≡ not (eqb (length jobs.now % 4) 0) }
-{
-    jobs.len() % 4 != 0
-}
-
-fn is_over_count(jobs: &[u8], limit: u64) -> bool
-    ensures { result ≡ ltb 64 (job_count jobs.now) || ltb 8 limit }
-{
-    let n = jobs.len() / 4;
-    (64 < n) | (8 < limit)
+    (0..n).find(|&i| sheet::out_of(u32::from(period(jobs, i)), u32::from(budget(jobs, i))))
 }
 
 // Checks a job list and a core limit: refusals 5, 4, 7 and 8.
 pub fn check_list(jobs: &[u8], limit: u64) -> Result<(), Rejection>
     ensures { refusal_of result ≡ scan (list_rows limit jobs.now) }
 {
-    if is_uneven(jobs) {
+    if jobs.len() % 4 != 0 {
         return Err(Refusal::Length.at(0));
     }
-    if is_over_count(jobs, limit) {
+    if jobs.len() / 4 > 64 || limit > 8 {
         return Err(Refusal::Count.at(0));
     }
     let n = (jobs.len() / 4) as u8;
-    let period = first(Field::Period, jobs, n);
-    if let Some(i) = period {
+    if let Some(i) = first_bad_period(jobs, n) {
         return Err(Refusal::Period.at(u16::from(i)));
     }
-    let budget = first(Field::Budget, jobs, n);
-    if let Some(i) = budget {
+    if let Some(i) = first_bad_budget(jobs, n) {
         return Err(Refusal::Budget.at(u16::from(i)));
     }
     Ok(())

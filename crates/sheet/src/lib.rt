@@ -2,7 +2,7 @@
 // Every reader is total: what stands past the end reads as 0.
 #![tactic(auto)]
 
-ghost use Rattle.std.specs.Prelude.{◌≡◌, ◌+◌, ◌*◌, ◌≤◌, get_or, drop};
+ghost use Rattle.std.specs.Prelude.{◌≡◌, ◌+◌, ◌*◌, ◌≤◌, get_or};
 ghost use Rattle.sheet.specs.Refusals.{number_of};
 ghost use Rattle.sheet.specs.Ranges.{out_of};
 ghost use Rattle.sheet.specs.Numbers.{word, long};
@@ -88,30 +88,29 @@ pub fn byte(part: &[u8], at: usize) -> u8
     part.get(at).copied().unwrap_or(0)
 }
 
-// What stands from a place on.
-fn after(part: &[u8], at: usize) -> &[u8]
-    ensures { result.now ≡ drop at part.now }
-{
-    part.get(at..).unwrap_or_default()
-}
-
 // The number of two bytes at a place, low byte first.
-#[tactic(auto, using(crate::proofs::Past::word_after, crate::proofs::Past::word_last))]
+#[tactic(auto, using(crate::proofs::Past::past_word, crate::proofs::Past::word_after, crate::proofs::Past::word_last))]
 pub fn read_word(part: &[u8], at: usize) -> u16
     ensures { result ≡ word part.now at }
 {
-    match after(part, at) {
+    if part.len() <= at {
+        return 0;
+    }
+    match &part[at..] {
         [low, high, ..] => u16::from_le_bytes([*low, *high]),
         rest => u16::from(byte(rest, 0)),
     }
 }
 
 // The number of four bytes at a place, low byte first.
-#[tactic(auto, using(crate::proofs::Past::long_after, crate::proofs::Past::long_words))]
+#[tactic(auto, using(crate::proofs::Past::past_long, crate::proofs::Past::long_after, crate::proofs::Past::long_words))]
 pub fn read_long(part: &[u8], at: usize) -> u32
     ensures { result ≡ long part.now at }
 {
-    match after(part, at) {
+    if part.len() <= at {
+        return 0;
+    }
+    match &part[at..] {
         [a, b, c, d, ..] => u32::from_le_bytes([*a, *b, *c, *d]),
         rest => u32::from(read_word(rest, 0)) + 65536 * u32::from(read_word(rest, 2)),
     }

@@ -1,28 +1,24 @@
-use Rattle.sheet.proofs.Scans.{scan_skip, scan_at, scan_none, whole_true, whole_false, found_place, found_none}
-use Rattle.jobs.proofs.Laws.{few}
-use native.Mathlib.Omega.{arith}
+use Rattle.sheet.proofs.Scans.{scan_skip, scan_at, scan_none}
+use Rattle.jobs.proofs.Laws.{uneven, even, over_count, within_count, entry_at, entry_none}
 use Rattle.jobs.specs.Jobs.{job_count, list_rows}
 use Rattle.jobs.proofs.check_list.Goals as goal
 
-pub returns-then-is_uneven : goal.returns-then-is_uneven
+pub returns-then-jobs-ne0 : goal.returns-then-jobs-ne0
 unfolding list_rows job_count
-returns-then-is_uneven c = search (scan_skip, scan_at, scan_none, whole_true, whole_false, found_place, found_none) depth 8
+returns-then-jobs-ne0 c = search (scan_at, uneven) depth 8
 
-pub returns-then-is_over_count : goal.returns-then-is_over_count
+pub returns-then-jobs-gt64 : goal.returns-then-jobs-gt64
 unfolding list_rows job_count
-returns-then-is_over_count c = search (scan_skip, scan_at, scan_none, whole_true, whole_false, found_place, found_none) depth 8
-
-pub overflow_cast-n : goal.overflow_cast-n
-overflow_cast-n c = omega (arith, few c.args.jobs.now c.args.limit _ c.is_over_count.ensures c.if-is_over_count.false)
+returns-then-jobs-gt64 c = search (scan_skip, scan_at, even, over_count, c.then-jobs-gt64.either) depth 8
 
 pub returns-in-Some : goal.returns-in-Some
 unfolding list_rows job_count
-returns-in-Some c = search (scan_skip, scan_at, scan_none, whole_true, whole_false, found_place, found_none) depth 8
+returns-in-Some c = search (scan_skip, scan_at, even, within_count, entry_at) depth 8
 
-pub returns-in-Some-budget : goal.returns-in-Some-budget
+pub returns-in-Some-first_bad_budget : goal.returns-in-Some-first_bad_budget
 unfolding list_rows job_count
-returns-in-Some-budget c = search (scan_skip, scan_at, scan_none, whole_true, whole_false, found_place, found_none) depth 8
+returns-in-Some-first_bad_budget c = search (scan_skip, scan_at, even, within_count, entry_none, entry_at) depth 8
 
 pub returns : goal.returns
 unfolding list_rows job_count
-returns c = search (scan_skip, scan_none, whole_true, whole_false, found_none) depth 8
+returns c = search (scan_skip, scan_none, even, within_count, entry_none) depth 8
