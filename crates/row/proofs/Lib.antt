@@ -1,4 +1,2 @@
-pub mod Places
 pub mod Outcomes
 pub mod Runs
-pub mod Bytes

@@ -1,4 +1,3 @@
 pub mod Bytes
 pub mod Row
-pub mod Steps
 pub mod OnTime

@@ -1,4 +1,4 @@
-use Rattle.std.proofs.Common.{◌-◌, ◌≡◌, ◌≤◌, length}
+use Rattle.std.proofs.Common.{◌≡◌}
 use Rattle.fit.proofs.Overwriting.{overwritten}
 use Rattle.timing.specs.Calls.{tick}
 use Rattle.state.specs.Operations.{ask, step}
@@ -9,10 +9,6 @@ use Rattle.row.proofs.tick_each.Given as goal
 abbrev pub invariant-loop-i : goal.invariant-loop-i
 invariant-loop-i l =
     record {
-      within : l.i ≤ length l.fn.row;
       states : l.row ≡ overwritten (step tick) l.fn.row l.fn.row l.i;
       bytes : l.answers ≡ overwritten (λ s. answer_byte (ask tick s)) l.fn.row l.fn.answers l.i;
     }
-
-abbrev pub decreases-loop-i : goal.decreases-loop-i
-decreases-loop-i l = l.n - l.i
