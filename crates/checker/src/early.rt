@@ -83,7 +83,9 @@ fn all_sound(r: &Records) -> bool
     requires { (10 * r.now.n ≤ length r.now.tasks.now) × (8 * r.now.c ≤ length r.now.cores.now) }
     ensures { result ≡ true → (i : ℕ) → i < r.now.n → sound_at (figures_by r.now) i ≡ true }
 {
-    (0..r.n).all(|i| is_sound(r, i))
+    // A copy, so that the compiler makes one loop for each version.
+    let r = *r;
+    (0..r.n).all(|i| is_sound(&r, i))
 }
 
 // Rules 10 to 12 where every task keeps its rules: 10 and 11 at the cores are left.

@@ -47,6 +47,7 @@ pub(crate) fn is_bad_pivot(r: &Records, k: u8) -> bool
     sheet::out_of(60_000, pivot) | sheet::out_of(120_000, sheet::divisor(r.cores, k))
 }
 
+#[inline(always)]
 pub(crate) fn is_stretched(r: &Records, i: u8) -> bool
     ensures { result ≡ stretched_at (figures_by r.now) i }
 {

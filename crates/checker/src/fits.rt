@@ -49,6 +49,8 @@ fn judge(r: &Records, k: u8, list: &[u8]) -> Result<bool, Rejection>
     requires { (10 * r.now.n ≤ length r.now.tasks.now) × InRange (figures_by r.now) × Each (λ i. i < r.now.n) list.now }
     ensures { result ≡ judged (chain_break (figures_by r.now).factor 1 list.now) (level_overloaded (figures_by r.now).budget (figures_by r.now).stroke (figures_by r.now).factor ((figures_by r.now).pivot k) ((figures_by r.now).divisor k) list.now) }
 {
+    // Read before the loop, so that the compiler makes one loop for each version.
+    let stroked = r.stroked;
     let pivot = sheet::pivot(r.cores, k);
     let divisor = sheet::divisor(r.cores, k);
     let mut load = 0;
@@ -62,7 +64,7 @@ fn judge(r: &Records, k: u8, list: &[u8]) -> Result<bool, Rejection>
         if times * last != m {
             return Err(Refusal::Chain.at(u16::from(task)));
         }
-        if room < fit::held(sheet::stroke(r.stroked, record, 0), divisor) {
+        if room < fit::held(sheet::stroke(stroked, record, 0), divisor) {
             return judge_over(r.tasks, list);
         }
         let sum = level_sum(load, times, sheet::budget(record, 0), divisor);

@@ -1,6 +1,6 @@
 -- The tasks above one, gathered step by step as the code goes.
 -- Assumes nothing.
-use Rattle.std.proofs.Common.{◌≡◌, refl, ◌∙◌, ap, ℕ, ◌+◌, ◌≤◌, ◌<◌, Bool, true, false, cond, List, [], ◌∷◌, ◌++◌, length, arith, add-one, zero-add}
+use Rattle.std.proofs.Common.{◌≡◌, ◌∙◌, ℕ, ◌+◌, Bool, true, false, cond, List, [], ◌∷◌, ◌++◌, add-one, zero-add}
 use Rattle.std.specs.Prelude.{map}
 use mathlib.Core.List.{map-append, append-nil}
 use Rattle.fit.specs.Lists.{numbers, select}

@@ -11,7 +11,7 @@ use lib.IntN.{ℤ}
 use Rattle.sheet.specs.declared.Rejection.{Rejection}
 use Rattle.sheet.specs.declared.Refusal.TheVariants.{Unlisted}
 use Rattle.sheet.specs.Table.{scan, refusal_of}
-use Rattle.fit.specs.Lists.{numbers, select, Each}
+use Rattle.fit.specs.Lists.{numbers, Each}
 use Rattle.fit.proofs.Lists.{each_number, each_select}
 use Rattle.jobs.specs.Jobs.{job_count, job_period, job_budget, list_rows, Listed}
 use Rattle.jobs.proofs.Laws.{listed}

@@ -1,6 +1,6 @@
 -- The search for the smallest number that meets a demand, step by step as the code goes.
 -- Assumes nothing.
-use Rattle.std.proofs.Common.{◌≡◌, ◌∙◌, ℕ, ◌≤◌, ◌<◌, false, List, arith}
+use Rattle.std.proofs.Common.{◌≡◌, ℕ, ◌≤◌, ◌<◌, false, List, arith}
 use Rattle.std.specs.Prelude.{None, Some, All, pos, ◌-ℤ◌}
 use native.Mathlib.Decide.{dec_lt}
 use borrow.Author.Tests.{le-leb, lt-leb}

@@ -23,7 +23,7 @@ pub struct Planned {
     pub length: u16,
 }
 
-// Stores x at place i; past the end nothing is stored.
+// Stores x at place i; past the end nothing is stored. (What is written through `get_mut`, a proof does not see.)
 fn store<T: Copy>(list: &mut [T], i: u8, x: T)
     ensures { list.new ≡ set list.old i x }
 {
@@ -33,7 +33,8 @@ fn store<T: Copy>(list: &mut [T], i: u8, x: T)
     }
 }
 
-// The core of each task by number, 255 for a task that has none yet, and how many cores are open.
+// The core of each task by number, 255 for a task that has none yet, and how many cores are open. (That they are at most 8 is no ghost field,
+// since `assign` of specs/FirstFit.antt would have to prove it.)
 #[derive(Clone, Copy)]
 struct Assignment {
     core: [u8; 64],

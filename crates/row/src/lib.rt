@@ -31,7 +31,7 @@ fn byte_of(answer: Answer) -> u8
     }
 }
 
-// Each state of a row is given its tick.
+// Each state of a row is given its tick. (`zip` in place of the index: of what it writes the proof would know the lengths and no element.)
 fn tick_each(row: &mut [Core], answers: &mut [u8])
     requires { length row.old ≤ length answers.old }
     ensures states { row.new ≡ map (step tick) row.old }
