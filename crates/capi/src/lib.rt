@@ -102,6 +102,7 @@ pub struct Margined {
 impl From<Result<Counts, Rejection>> for Checked {
     ghost from_gives = { λ answer r. r ≡ checked_of (check_outcome answer) };
 
+    #[tactic(auto, unfolding(crate::specs::Answers::checked_of))]
     fn from(answer: Result<Counts, Rejection>) -> Checked {
         match answer {
             Ok(Counts { tasks, cores }) => Checked {
@@ -123,6 +124,7 @@ impl From<Result<Counts, Rejection>> for Checked {
 impl From<Result<Planned, Rejection>> for PlanAnswer {
     ghost from_gives = { λ answer r. r ≡ planned_of (planner_outcome answer) };
 
+    #[tactic(auto, unfolding(crate::specs::Answers::planned_of))]
     fn from(answer: Result<Planned, Rejection>) -> PlanAnswer {
         match answer {
             Ok(
@@ -152,6 +154,7 @@ impl From<Result<Planned, Rejection>> for PlanAnswer {
 impl From<Result<u16, Rejection>> for ListAnswer {
     ghost from_gives = { λ answer r. r ≡ listed_of (listing_answer answer) };
 
+    #[tactic(auto, unfolding(crate::specs::Answers::listed_of))]
     fn from(answer: Result<u16, Rejection>) -> ListAnswer {
         match answer {
             Ok(length) => ListAnswer {
@@ -171,6 +174,7 @@ impl From<Result<u16, Rejection>> for ListAnswer {
 impl From<Result<u16, Rejection>> for MoveAnswer {
     ghost from_gives = { λ answer r. r ≡ moved_of (mover_answer answer) };
 
+    #[tactic(auto, unfolding(crate::specs::Answers::moved_of))]
     fn from(answer: Result<u16, Rejection>) -> MoveAnswer {
         match answer {
             Ok(length) => MoveAnswer {
@@ -190,6 +194,7 @@ impl From<Result<u16, Rejection>> for MoveAnswer {
 impl From<Step> for StepAnswer {
     ghost from_gives = { λ step r. r ≡ stepped_of (answer_of step.answer) step.core };
 
+    #[tactic(auto, unfolding(crate::specs::Answers::stepped_of))]
     fn from(step: Step) -> StepAnswer {
         let core = step.core;
         match step.answer {
@@ -210,6 +215,7 @@ impl From<Step> for StepAnswer {
 impl From<Step> for Ticked {
     ghost from_gives = { λ step r. r ≡ ticked_of (answer_of step.answer) step.core };
 
+    #[tactic(auto, unfolding(crate::specs::Answers::ticked_of))]
     fn from(step: Step) -> Ticked {
         let (refusal, place, task) = match step.answer {
             Ok(Reply::Served(task)) => (0, 0, task),
@@ -232,6 +238,7 @@ impl From<Step> for Ticked {
 impl From<Result<(), Rejection<usize>>> for RowTicked {
     ghost from_gives = { λ answer r. r ≡ row_ticked_of (row_answer answer) };
 
+    #[tactic(auto, unfolding(crate::specs::Answers::row_ticked_of))]
     fn from(answer: Result<(), Rejection<usize>>) -> RowTicked {
         match answer {
             Ok(()) => RowTicked {
@@ -249,6 +256,7 @@ impl From<Result<(), Rejection<usize>>> for RowTicked {
 impl From<Result<i32, Rejection>> for Margined {
     ghost from_gives = { λ answer r. r ≡ margined_of (margin_outcome answer) };
 
+    #[tactic(auto, unfolding(crate::specs::Answers::margined_of))]
     fn from(answer: Result<i32, Rejection>) -> Margined {
         match answer {
             Ok(margin) => Margined {
@@ -291,6 +299,7 @@ pub extern "C" fn homvaits_check(sheet: &[u8]) -> Checked
 }
 
 // The checker accepts the sheet that is written, and every core of it starts and runs the listed jobs on time, whatever calls follow.
+#[tactic(auto, using(crate::proofs::Answers::plan_accepts))]
 #[unsafe(no_mangle)]
 pub extern "C" fn homvaits_plan(jobs: &[u8], limit: u64, start: u64, out: &mut [u8]) -> PlanAnswer
     ensures value { result ≡ planned_of (plan_outcome jobs.now limit start (length out.old)) }
