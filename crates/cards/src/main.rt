@@ -20,7 +20,7 @@ fn print(rt: &impl Print, text: &str) {
 }
 
 // A space and a number.
-fn print_number<N: Display>(rt: &impl Print, n: N) {
+fn print_number<N: Display + Drop>(rt: &impl Print, n: N) {
     let _ = print!(rt; " {n}");
 }
 
@@ -209,7 +209,7 @@ fn within(q: u16, d: u32, m: u32) -> u64
 }
 
 // A figure of each of n tasks.
-fn print_each<N: Display, F: Fn(u8) -> N>(rt: &impl Print, n: u8, figure: F)
+fn print_each<N: Display + Drop, F: Fn(u8) -> N>(rt: &impl Print, n: u8, figure: F)
     requires { F.IsAlwaysCallable figure }
 {
     for i in 0..n {
@@ -257,10 +257,10 @@ fn plan_card(
             print(rt, "\n");
             0
         }
-        Ok(Planned { tasks, cores, .. }) => {
-            print_rates(rt, out, tasks);
+        Ok(planned) => {
+            print_rates(rt, out, planned.tasks);
             print(rt, "\n");
-            8 + 10 * usize::from(tasks) + 8 * usize::from(cores)
+            usize::from(planned.length)
         }
     }
 }
@@ -398,7 +398,7 @@ fn print_moved(rt: &impl Print, sheet: &[u8], other: &[u8]) {
             let end = usize::from(length);
             print(rt, " moved");
             print_number(rt, end);
-            let word = if out[..end] == *other {
+            let word = if &out[..end] == other {
                 " same"
             } else {
                 " different"

@@ -4,7 +4,7 @@ use Rattle.mover.proofs.Inside.{moved_inside, moved_front}
 use Rattle.cards.proofs.print_moved.Goals as goal
 
 pub slice_bounds-out-end : goal.slice_bounds-out-end
-slice_bounds-out-end g c = search (moved_inside, rules)
+slice_bounds-out-end g c = rw c.from-end.ensures (search (moved_inside, rules))
 
-pub slice_bounds-same-end : goal.slice_bounds-same-end
-slice_bounds-same-end g c = search (moved_front, rules)
+pub slice_bounds-eq-end : goal.slice_bounds-eq-end
+slice_bounds-eq-end g c = rw c.from-end.ensures (search (moved_front, rules))
