@@ -24,7 +24,8 @@ use sheet::{Records, Refusal, Rejection};
 type Line = ArrayString<114>;
 
 // A word with its space, a number, and the byte that ends the field: at most 8 bytes, 10 digits and 1 byte. `write!` promises its bytes only
-// where it does not fail, and does not promise that it does not.
+// where it does not fail, and does not promise that it does not. Inlined, since a copy between two references would need C's `memmove`.
+#[inline(always)]
 fn push_field(line: &mut Line, name: &str, x: u32, end: char)
     requires { (length name.now ≤ 8) × (length line.old.bytes + 19 ≤ 114) × (end < 128) }
     ensures bytes { line.new.bytes ≡ line.old.bytes ++ field name.now x end }

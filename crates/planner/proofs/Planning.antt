@@ -5,13 +5,11 @@ use mathlib.Core.Path.{◌≡◌, refl, sym, ap, ◌∙◌}
 use mathlib.Core.Bool.{Bool, true, false, cond, not}
 use Rattle.std.specs.Prelude.{None, Some, Result, Ok, Err}
 use Rattle.std.specs.Result.{IsErrAnd}
-use Rattle.std.specs.List.{refill}
-use mathlib.Core.List.{List, ◌++◌, append-nil}
-use native.Mathlib.Nat.{le_refl}
+use mathlib.Core.List.{List}
 use native.Mathlib.Omega.{arith}
 use borrow.Author.Tests.{ltb-false, leb-false, eqb-true, not-false}
-use lib.ListN.{length, take, drop, length-append, length-drop, length-take, drop_of_length-le}
-use lib.Seq.{take_at, take_all}
+use lib.ListN.{length, take, drop}
+use lib.Seq.{take_at}
 use lib.Dec.{leb, eqb}
 use Rattle.sheet.specs.declared.Refusal.TheVariants.{NoFit}
 use Rattle.sheet.specs.declared.Rejection.{Rejection}
@@ -51,12 +49,9 @@ module _ (l ring : List ℕ) (n : ℕ) (e : n ≡ job_count l) (few : job_count 
   pub ring_long : length ring ≡ job_count l
   ring_long = ap length (all_listed Ring l ring n e few h) ∙ all_sorted Ring (job_period l) (job_count l)
 
-  pub ring_walked : (limit start : ℕ) (turned : List ℕ) → start ≤ job_count l → turned ≡ drop start ring ++ take start ring → walk_in l limit (refill (length ring) ring turned) ≡ fit_of l limit start
-  unfolding fit_of rotate
-  ring_walked limit start turned b t =
-      let size : length turned ≡ length ring = ap length t ∙ simp (length-append, length-drop, length-take) (omega (arith, ring_long)) in
-      let same : refill (length ring) ring turned ≡ turned = rw (size, drop_of_length-le ring {i = length ring} (le_refl _), append-nil turned) (take_all (length ring) turned (omega (arith, size))) in
-      rw (same, t, all_listed Ring l ring n e few h)
+  pub ring_walked : (limit start : ℕ) (turned : List ℕ) → turned ≡ rotate start ring → walk_in l limit turned ≡ fit_of l limit start
+  unfolding fit_of
+  ring_walked limit start turned t = rw (t, all_listed Ring l ring n e few h)
 
 -- what a `?` hands on
 pub err_is : {A : Type 0} (g : Result A (Rejection ℕ)) (r : Rejection ℕ) → IsErrAnd g (λ e. e ≡ r) → g ≡ Err r

@@ -1,14 +1,39 @@
 // First fit over the ring, walked once round from the start.
-ghost use Rattle.std.specs.Prelude.{◌≡◌, ◌≤◌};
+ghost use Rattle.std.specs.Prelude.{◌≡◌, ◌≤◌, ◌+◌, ◌++◌, length};
 ghost use Rattle.std.specs.List.{find, range_with_len};
 ghost use Rattle.jobs.specs.Jobs.{job_count};
+ghost use Rattle.planner.specs.FirstFit.{rotate};
 ghost use Rattle.planner.specs.Plan.{fit_of};
 ghost use Rattle.planner.specs.Steps.{takes_in, core_in, walk_in, fitted};
 
 use crate::Assignment;
 use crate::sets::Jobs;
-use fit::By;
+use fit::{By, Order};
 use sheet::{Refusal, Rejection};
+
+// Puts a part of a list behind an order. One task at a time and inlined: `rotate_left` and `try_extend_from_slice` would need C's `memmove`.
+#[inline(always)]
+fn append(order: &mut Order, part: &[u8])
+    requires { length order.old.items + length part.now ≤ 64 }
+    ensures { order.new.items ≡ order.old.items ++ part.now }
+{
+    for &i in part {
+        order.push(i);
+    }
+}
+
+// A list walked once round from a start.
+#[tactic(auto, unfolding(crate::specs::FirstFit::rotate))]
+#[inline(always)]
+fn turned(ring: &[u8], start: usize) -> Order
+    requires { (start ≤ length ring.now) × (length ring.now ≤ 64) }
+    ensures { result.items ≡ rotate start ring.now }
+{
+    let mut turned = Order::new();
+    append(&mut turned, &ring[start..]);
+    append(&mut turned, &ring[..start]);
+    turned
+}
 
 impl Jobs<'_> {
     // Whether the tasks of core k pass together with task i.
@@ -56,8 +81,7 @@ impl Jobs<'_> {
         requires { (limit ≤ 8) × (start ≤ job_count self.now.list.now) }
         ensures { result ≡ fitted (fit_of self.now.list.now limit start) }
     {
-        let mut ring = jobs::in_order(By::Ring, self.list, self.count());
-        ring.rotate_left(start);
-        self.walk(ring.as_slice(), limit)
+        let ring = jobs::in_order(By::Ring, self.list, self.count());
+        self.walk(turned(ring.as_slice(), start).as_slice(), limit)
     }
 }
