@@ -7,3 +7,4 @@ pub mod Sheets
 pub mod Laws
 pub mod Length
 pub mod Long
+pub mod OneTick

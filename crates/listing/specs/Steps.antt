@@ -16,3 +16,7 @@ pub record Put (out : List ℕ) (at : ℕ) (text new : List ℕ) (after : ℕ) :
 pub record Capped (most : ℕ) (out : List ℕ) (at : ℕ) (text new : List ℕ) (after : ℕ) : Type 0 where
   pub put : Put out at text new after
   pub cap : after ≤ at + most
+
+-- strokes of one tick for every task, in place of a sheet's own: no line reads them
+abbrev pub one_tick : ℕ → ℕ
+one_tick i = 1
