@@ -125,26 +125,10 @@ op_foreign c s w r e x y = record { answer = rw (y, x, ← e); core = rw (y, ←
 pub count_max : (s : Core) (b : Bool) → b ≡ foreign s → b ≡ false → s.count ≤ 64
 count_max s b e x = (foreign_form s (sym e ∙ x)).count
 
--- a state in form
-module _ (s : Core) (x : foreign s ≡ false) (room : length s.tasks ≡ 64) where
-  few : s.count ≤ 64
-  few = (foreign_form s x).count
-
+-- a state of at most 64 tasks, whatever its fields hold
+module _ (s : Core) (most : s.count ≤ 64) (room : length s.tasks ≡ 64) where
   many : length (tasks_of s) ≡ s.count
-  many = length-take-le s.count s.tasks (omega (arith, few))
-
-  -- what it answers and hands back
-  native_ask : (c : Call) → ask c s ≡ answer c (state_in s)
-  unfolding ask
-  native_ask c = rw x
-
-  native_step : (c : Call) → step c s ≡ with_state s (next c (state_in s))
-  unfolding step
-  native_step c = rw x
-
-  -- what timing's state gives is what a tick of a state in form gives
-  pub tick_in_form : (r : Step) → Untested s r → Operation tick s r
-  tick_in_form r u = record { answer = u.answer ∙ sym (native_ask tick); core = u.core ∙ sym (native_step tick) }
+  many = length-take-le s.count s.tasks (omega arith)
 
   module _ (q : Task → Bool) (i : ℕ) (at : i ≡ place_of q (tasks_of s)) where
     hit : i < s.count → Found q (tasks_of s) i
@@ -156,36 +140,17 @@ module _ (s : Core) (x : foreign s ≡ false) (room : length s.tasks ≡ 64) whe
     task_at : i < s.count → nth (tasks_of s) i ≡ nth s.tasks i
     task_at h = get_or-take s.count s.tasks i no_task h
 
-    -- a call that changes the first task which passes, and the stroke
-    operation : (c : Call) (f : Task → Answer) (d : Answer) (g : Task → Task) (k : Stroke) (r : Step) → answer c (state_in s) ≡ of_first q f d (tasks_of s) → next c (state_in s) ≡ record { tasks = modify q g (tasks_of s); stroke = k } → i < s.count → answer_of r.answer ≡ f (nth s.tasks i) → r.core ≡ with_stroke (changed s i (g (nth s.tasks i))) k → Operation c s r
-    operation c f d g k r p n h y z = record {
-      answer = y ∙ sym (native_ask c ∙ p ∙ (hit h).answers f d ∙ ap f (task_at h));
-      core = z ∙ sym (native_step c ∙ ap (with_state s) (n ∙ ap (λ l. record { tasks = l; stroke = k }) ((hit h).changes g ∙ ap (λ t. set (tasks_of s) i (g t)) (task_at h))) ∙ one_changed s i _ k h);
-    }
-
-    -- a refusal of that task: task and stroke stay as they are
-    refusal_at : (c : Call) (f : Task → Answer) (d : Answer) (g : Task → Task) (k : Stroke) (w : Rejection ℕ) → answer c (state_in s) ≡ of_first q f d (tasks_of s) → next c (state_in s) ≡ record { tasks = modify q g (tasks_of s); stroke = k } → (Found q (tasks_of s) i → k ≡ stroke_in s) → i < s.count → f (nth s.tasks i) ≡ refused (number_of w.word) w.place → g (nth s.tasks i) ≡ nth s.tasks i → Operation c s (refusal s w)
-    refusal_at c f d g k w p n t h y z =
-        let same = t (hit h) in
-        operation c f d g k (refusal s w) p n h (sym y) (state_is s s.count _ _ _ refl (sym (ap (set s.tasks i) z ∙ set-get_or s.tasks i no_task)) (sym (ap (λ u. u.task) same)) (sym (ap (λ u. u.left) same)))
-
-    -- 17: no task passes
-    unlisted : (c : Call) (f : Task → Answer) (g : Task → Task) (k : Stroke) → answer c (state_in s) ≡ of_first q f (refused 17 0) (tasks_of s) → next c (state_in s) ≡ record { tasks = modify q g (tasks_of s); stroke = k } → (Lacking q (tasks_of s) → k ≡ stroke_in s) → s.count ≤ i → Operation c s (refusal s (record { word = Unlisted; place = 0 }))
-    unlisted c f g k p n t h =
-        let m = miss h in
-        record { answer = sym (native_ask c ∙ p ∙ m.answers f (refused 17 0)); core = sym (native_step c ∙ ap (with_state s) (n ∙ ap (λ l. record { tasks = l; stroke = k }) (m.changes g) ∙ ap (λ u. record { tasks = tasks_of s; stroke = u }) (t m)) ∙ same_state s) }
-
   abbrev who : Task → Bool
   who = turn (stroke_in s)
 
   -- a tick, once every task is older
   module _ (i : ℕ) (at : i ≡ place_of who (tasks_of s)) (v : Core) (k : v ≡ aged_state s) where
     -- it is idle
-    pub tick_idles : s.count ≤ i → Operation tick s (record { answer = Ok Idle; core = v })
+    pub tick_idles : s.count ≤ i → Untested s (record { answer = Ok Idle; core = v })
     unfolding answer next answer_by next_by next_stroke
     tick_idles h =
         let m = miss who i at h in
-        tick_in_form _ (record { answer = sym (m.answers tick_answer idle); core = k ∙ sym (ap (λ l. with_state s (record { tasks = map older l; stroke = next_stroke tick (state_in s) })) (m.changes used) ∙ ap (λ (v : Stroke). with_state s (record { tasks = map older (tasks_of s); stroke = v })) (m.answers (stroke_ticked (stroke_in s)) (stroke_in s))) })
+        record { answer = sym (m.answers tick_answer idle); core = k ∙ sym (ap (λ l. with_state s (record { tasks = map older l; stroke = next_stroke tick (state_in s) })) (m.changes used) ∙ ap (λ (v : Stroke). with_state s (record { tasks = map older (tasks_of s); stroke = v })) (m.answers (stroke_ticked (stroke_in s)) (stroke_in s))) }
 
     -- it goes to the first task that may have it
     module _ (h : i < s.count) where
@@ -200,16 +165,66 @@ module _ (s : Core) (x : foreign s ≡ false) (room : length s.tasks ≡ 64) whe
       unfolding older with_job
       aged_left = rw aged_task (turn_pends (stroke_in s) old (hit who i at h).passes)
 
-      pub tick_serves : (n : ℕ) (w : Core) → n ≡ (nth v.tasks i).number → w ≡ with_stroke (changed v i (used (nth v.tasks i))) (stroke_ticked (stroke_in v) (nth v.tasks i)) → Operation tick s (record { answer = Ok (Served n); core = w })
+      pub tick_serves : (u : Task) (rest number : ℕ) → u ≡ with_job (nth v.tasks i) (nth v.tasks i).age ((nth v.tasks i).left - 1) → rest ≡ stroke_ticks s.stroke_left (nth v.tasks i) - 1 → number ≡ (stroke_of (nth v.tasks i).number rest).task → Untested s (record { answer = Ok (Served (nth v.tasks i).number); core = record { count = v.count; tasks = set v.tasks i u; stroke_task = number; stroke_left = rest } })
       unfolding answer next answer_by next_by next_stroke used older with_job with_state
-      tick_serves n w y z =
+      tick_serves u rest number e x y =
           let m = hit who i at h in
-          let front : set v.tasks i (used (nth v.tasks i)) ≡ map older (modify who used (tasks_of s)) ++ drop s.count s.tasks = ap (λ t. set v.tasks i (used t)) aged_task ∙ ap (λ u. set u.tasks i (used (older old))) k ∙ set-append_left (map older (tasks_of s)) (drop s.count s.tasks) i (used (older old)) (simp length-map (omega (arith, many))) ∙ ap (λ l. l ++ drop s.count s.tasks) (sym (map_set older (tasks_of s) i (used old)) ∙ ap (map older) (sym (m.changes used))) in
-          let own : stroke_ticked (stroke_in v) (nth v.tasks i) ≡ next_stroke tick (state_in s) = ap (stroke_ticked (stroke_in v)) aged_task ∙ ap (λ u. stroke_ticked (stroke_in u) (older old)) k ∙ ap (λ n. stroke_of old.number (n - 1)) (ticks_older s.stroke_left old) ∙ sym (m.answers (stroke_ticked (stroke_in s)) (stroke_in s)) in
-          tick_in_form _ (record {
-            answer = ap served (y ∙ ap (λ t. t.number) aged_task) ∙ sym (m.answers tick_answer idle);
-            core = z ∙ state_is _ s.count _ _ _ (ap (λ u. u.count) k) front (ap (λ (u : Stroke). u.task) own) (ap (λ (u : Stroke). u.left) own);
-          })
+          let o : u ≡ used (older old) = e ∙ ap used aged_task in
+          let front : set v.tasks i u ≡ map older (modify who used (tasks_of s)) ++ drop s.count s.tasks = ap (λ w. set w.tasks i u) k ∙ set-append_left (map older (tasks_of s)) (drop s.count s.tasks) i u (simp length-map (omega (arith, many))) ∙ ap (λ l. l ++ drop s.count s.tasks) (ap (set (map older (tasks_of s)) i) o ∙ sym (map_set older (tasks_of s) i (used old)) ∙ ap (map older) (sym (m.changes used))) in
+          let left : rest ≡ stroke_ticks s.stroke_left old - 1 = x ∙ ap (λ t. stroke_ticks s.stroke_left t - 1) aged_task ∙ ap (λ n. n - 1) (ticks_older s.stroke_left old) in
+          let own : stroke_of (nth v.tasks i).number rest ≡ next_stroke tick (state_in s) = ap (λ t. stroke_of t.number rest) aged_task ∙ ap (stroke_of old.number) left ∙ sym (m.answers (stroke_ticked (stroke_in s)) (stroke_in s)) in
+          record {
+            answer = ap (λ t. served t.number) aged_task ∙ sym (m.answers tick_answer idle);
+            core = state_is _ s.count _ _ _ (ap (λ w. w.count) k) front (y ∙ ap (λ (w : Stroke). w.task) own) (left_of (nth v.tasks i).number rest ∙ ap (λ (w : Stroke). w.left) own);
+          }
+
+      -- the same of the number and the state as `serve` hands them back
+      pub serve_ticks : (n : ℕ) (w : Core) → n ≡ (nth v.tasks i).number → w ≡ with_stroke (changed v i (used (nth v.tasks i))) (stroke_ticked (stroke_in v) (nth v.tasks i)) → Untested s (record { answer = Ok (Served n); core = w })
+      unfolding used with_state
+      serve_ticks n w y z =
+          let b = tick_serves _ _ _ refl refl refl in
+          record { answer = ap served y ∙ b.answer; core = z ∙ sym (stroke_written v i (nth v.tasks i) _ _ (ap (λ (u : Core). stroke_ticks u.stroke_left (nth v.tasks i) - 1) (sym k)) refl) ∙ b.core }
+
+-- a state in form
+module _ (s : Core) (x : foreign s ≡ false) where
+  few : s.count ≤ 64
+  few = (foreign_form s x).count
+
+  -- what it answers and hands back
+  native_ask : (c : Call) → ask c s ≡ answer c (state_in s)
+  unfolding ask
+  native_ask c = rw x
+
+  native_step : (c : Call) → step c s ≡ with_state s (next c (state_in s))
+  unfolding step
+  native_step c = rw x
+
+  -- what timing's state gives is what a tick of a state in form gives
+  pub tick_in_form : (r : Step) → Untested s r → Operation tick s r
+  tick_in_form r u = record { answer = u.answer ∙ sym (native_ask tick); core = u.core ∙ sym (native_step tick) }
+
+  module _ (room : length s.tasks ≡ 64) (q : Task → Bool) (i : ℕ) (at : i ≡ place_of q (tasks_of s)) where
+    -- a call that changes the first task which passes, and the stroke
+    operation : (c : Call) (f : Task → Answer) (d : Answer) (g : Task → Task) (k : Stroke) (r : Step) → answer c (state_in s) ≡ of_first q f d (tasks_of s) → next c (state_in s) ≡ record { tasks = modify q g (tasks_of s); stroke = k } → i < s.count → answer_of r.answer ≡ f (nth s.tasks i) → r.core ≡ with_stroke (changed s i (g (nth s.tasks i))) k → Operation c s r
+    operation c f d g k r p n h y z =
+        let m = hit s few room q i at h in
+        let same = task_at s few room q i at h in
+        record {
+          answer = y ∙ sym (native_ask c ∙ p ∙ m.answers f d ∙ ap f same);
+          core = z ∙ sym (native_step c ∙ ap (with_state s) (n ∙ ap (λ l. record { tasks = l; stroke = k }) (m.changes g ∙ ap (λ t. set (tasks_of s) i (g t)) same)) ∙ one_changed s i _ k h);
+        }
+
+    -- a refusal of that task: task and stroke stay as they are
+    refusal_at : (c : Call) (f : Task → Answer) (d : Answer) (g : Task → Task) (k : Stroke) (w : Rejection ℕ) → answer c (state_in s) ≡ of_first q f d (tasks_of s) → next c (state_in s) ≡ record { tasks = modify q g (tasks_of s); stroke = k } → (Found q (tasks_of s) i → k ≡ stroke_in s) → i < s.count → f (nth s.tasks i) ≡ refused (number_of w.word) w.place → g (nth s.tasks i) ≡ nth s.tasks i → Operation c s (refusal s w)
+    refusal_at c f d g k w p n t h y z =
+        let same = t (hit s few room q i at h) in
+        operation c f d g k (refusal s w) p n h (sym y) (state_is s s.count _ _ _ refl (sym (ap (set s.tasks i) z ∙ set-get_or s.tasks i no_task)) (sym (ap (λ u. u.task) same)) (sym (ap (λ u. u.left) same)))
+
+    -- 17: no task passes
+    unlisted : (c : Call) (f : Task → Answer) (g : Task → Task) (k : Stroke) → answer c (state_in s) ≡ of_first q f (refused 17 0) (tasks_of s) → next c (state_in s) ≡ record { tasks = modify q g (tasks_of s); stroke = k } → (Lacking q (tasks_of s) → k ≡ stroke_in s) → s.count ≤ i → Operation c s (refusal s (record { word = Unlisted; place = 0 }))
+    unlisted c f g k p n t h =
+        let m = miss s few room q i at h in
+        record { answer = sym (native_ask c ∙ p ∙ m.answers f (refused 17 0)); core = sym (native_step c ∙ ap (with_state s) (n ∙ ap (λ l. record { tasks = l; stroke = k }) (m.changes g) ∙ ap (λ u. record { tasks = tasks_of s; stroke = u }) (t m)) ∙ same_state s) }
 
 -- the place of a named task, as the code looks for it
 module _ (s : Core) (j : ℕ) (room : length s.tasks ≡ 64) where
@@ -227,8 +242,8 @@ module _ (s : Core) (j : ℕ) (room : length s.tasks ≡ 64) where
   looked = rw (← place_position (named j) (tasks_of s)) (by (foreign s) refl)
     where
       inside : foreign s ≡ false → (b : Bool) → ltb n (length (tasks_of s)) ≡ b → Looked (ok_or (cond b (Some n) None) (record { word = Unlisted; place = 0 }))
-      inside x true e = there x (omega (arith, ltb-true n _ e, many s x room))
-      inside x false e = not_there x (omega (arith, ltb-false n _ e, many s x room))
+      inside x true e = there x (omega (arith, ltb-true n _ e, many s (few s x) room))
+      inside x false e = not_there x (omega (arith, ltb-false n _ e, many s (few s x) room))
 
       by : (b : Bool) → foreign s ≡ b → Looked (cond b (Err (record { word = Foreign; place = 0 })) (ok_or (cond (ltb n (length (tasks_of s))) (Some n) None) (record { word = Unlisted; place = 0 })))
       by true e = foreign_state e
@@ -268,7 +283,7 @@ module _ (s : Core) (j : ℕ) (room : length s.tasks ≡ 64) where
               (x, same, omega (arith, same, m))
 
       pub spot_room : i < 64
-      spot_room = omega (arith, found_there.2, few s found_there.0 room)
+      spot_room = omega (arith, found_there.2, few s found_there.0)
 
       -- the offset in bytes of a task of 10 bytes
       pub spot_fits : Fits w64 (i * 10)
@@ -283,7 +298,7 @@ module _ (s : Core) (j : ℕ) (room : length s.tasks ≡ 64) where
 
       -- the task there, as it stands among the state's tasks
       here : nth (tasks_of s) i ≡ nth s.tasks i
-      here = task_at s found_there.0 room (named j) i found_there.1 found_there.2
+      here = task_at s (few s found_there.0) room (named j) i found_there.1 found_there.2
 
       -- 18, 19, and a job that starts
       pub release_early : (r : Rejection ℕ) (n : ℕ) → (nth s.tasks i).age < (nth s.tasks i).period → n ≡ (nth s.tasks i).number → r ≡ record { word = Early; place = n } → Operation (release j) s (refusal s r)
@@ -317,6 +332,6 @@ module _ (s : Core) (j : ℕ) (room : length s.tasks ≡ 64) where
       unfolding answer next answer_by next_by next_stroke finish_answer finished pending
       finish_ends u l e =
           let z : ltb 0 (nth s.tasks i).left ≡ true = lt-ltb 0 (nth s.tasks i).left (omega (arith, l)) in
-          let m = hit s found_there.0 room (named j) i found_there.1 found_there.2 in
+          let m = hit s (few s found_there.0) room (named j) i found_there.1 found_there.2 in
           let own : next_stroke (finish j) (state_in s) ≡ cond (eqb s.stroke_task (nth s.tasks i).number) no_stroke (stroke_in s) = m.answers (stroke_finished (stroke_in s)) (stroke_in s) ∙ ap (stroke_finished (stroke_in s)) here ∙ rw z in
           changed_there (finish j) finish_answer finished (next_stroke (finish j) (state_in s)) _ u refl refl (rw z) (rw (e, z)) (sym (ap (with_stroke s) own))

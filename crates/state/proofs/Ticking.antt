@@ -25,7 +25,7 @@ use Rattle.state.specs.State.{tasks_of, stroke_in, with_state, foreign}
 use Rattle.state.specs.Operations.{Operation}
 use Rattle.state.specs.Steps.{breaks, begun, after, ends_foreign, changed, with_stroke}
 use Rattle.state.proofs.Pass.{PassedIn, passed_begun, pass_turn, pass_breaks, pass_told, pass_place}
-use Rattle.state.proofs.Outcomes.{aged_state, tick_idles, aged_left, tick_serves}
+use Rattle.state.proofs.Outcomes.{aged_state, tick_in_form, tick_idles, aged_left, serve_ticks}
 
 -- a state with the first i of its tasks older
 abbrev pub aged_to : Core → ℕ → Core
@@ -111,11 +111,11 @@ module _ (s : Core) (i : ℕ) (next : Core) (marks : List ℕ) (p : Pass) (h : i
               y ∙ ap (λ m. place_of marked (take s.count m)) all_marks ∙ marks_place (tasks_of s) s.count many ∙ ap (λ q. place_of q (tasks_of s)) (sym (turn_free (stroke_in s) none))
 
       pub ticking_idles : s.count ≤ f → Operation tick s (record { answer = Ok Idle; core = next })
-      ticking_idles g = tick_idles s in_form b.room f place next older_state g
+      ticking_idles g = tick_in_form s in_form _ (tick_idles s b.passed.few b.room f place next older_state g)
 
       module _ (g : f < s.count) where
         pub ticking_left : 1 ≤ (nth next.tasks f).left
-        ticking_left = aged_left s in_form b.room f place next older_state g
+        ticking_left = aged_left s b.passed.few b.room f place next older_state g
 
         pub ticking_serves : (n : ℕ) (w : Core) → n ≡ (nth next.tasks f).number → w ≡ with_stroke (changed next f (used (nth next.tasks f))) (stroke_ticked (stroke_in next) (nth next.tasks f)) → Operation tick s (record { answer = Ok (Served n); core = w })
-        ticking_serves n w y z = tick_serves s in_form b.room f place next older_state g n w y z
+        ticking_serves n w y z = tick_in_form s in_form _ (serve_ticks s b.passed.few b.room f place next older_state g n w y z)
