@@ -1,6 +1,6 @@
 -- Rules 13 and 14 at one core: what the code finds of its tasks in priority order is what the rules say.
 -- Assumes nothing.
-use Prim.Native.Nat.{ℕ, ◌+◌, ◌-◌, ◌≤◌, ◌<◌, min}
+use Prim.Native.Nat.{ℕ, ◌+◌, ◌-◌, ◌*◌, ◌≤◌, ◌<◌, min}
 use mathlib.Core.Path.{◌≡◌, refl, sym, ap, subst, ◌∙◌}
 use mathlib.Core.Bool.{Bool, true, false, cond}
 use Rattle.std.specs.Prelude.{Option, None, Some, Result, Ok, Err}
@@ -57,6 +57,10 @@ module _ (f : Figures) (k from : ℕ) (list : List ℕ) (r : InRange f) (h : k <
   pub part_members : (to : ℕ) → to ≡ end_on f.core k list from (min f.tasks 64) → Each (λ i. i < f.tasks) (take (to - from) (drop from list))
   unfolding order_on
   part_members to e = subst (Each _) (sym (part_order to e)) (each_of {P = λ i. (i < f.tasks) × (f.core i ≡ k)} _ (λ i m. m.0) (order_members f.period f.core k f.tasks))
+
+  -- their records are there, and their factors are above 0
+  pub part_held : (records : List ℕ) → 10 * f.tasks ≤ length records → (to : ℕ) → to ≡ end_on f.core k list from (min f.tasks 64) → Each (λ i. (10 * i + 10 ≤ length records) × (0 < f.factor i)) (take (to - from) (drop from list))
+  part_held records long to e = each_of {P = λ i. i < f.tasks} _ (λ i m. (omega (arith, long, m), r.factors i m)) (part_members to e)
 
   pub part_judged : (to Q D : ℕ) (x : Result Bool (Rejection ℕ)) → to ≡ end_on f.core k list from (min f.tasks 64) → Q ≡ f.pivot k → D ≡ f.divisor k → x ≡ judged (chain_break f.factor 1 (take (to - from) (drop from list))) (level_overloaded f.budget f.stroke f.factor Q D (take (to - from) (drop from list))) → x ≡ judged (chain_break_on f k) (overloaded_on f k)
   unfolding chain_break_on overloaded_on

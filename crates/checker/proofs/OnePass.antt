@@ -1,7 +1,7 @@
 -- Rules 13 and 14 in one pass over a core's tasks, step by step as the code goes.
 -- Assumes nothing.
 use Prim.Native.Nat.{ℕ, suc, ◌+◌, ◌-◌, ◌*◌, ◌/◌, ◌%◌, ◌≤◌, ◌<◌, min, zero-le}
-use mathlib.Core.Path.{◌≡◌, refl, sym, ◌∙◌}
+use mathlib.Core.Path.{◌≡◌, refl, sym, subst, ◌∙◌}
 use mathlib.Core.Bool.{Bool, true, false, or-true}
 use Rattle.std.specs.Prelude.{Option, None, Some, Result, Ok, Err}
 use Rattle.sheet.specs.declared.Refusal.TheVariants.{Chain}
@@ -14,14 +14,15 @@ use borrow.Author.Tests.{lt-ltb, le-ltb, eq-eqb, ne_eqb}
 use lib.Dec.{eqb}
 use lib.ListN.{length, get_or, drop, drop_of_length-le}
 use lib.Seq.{drop-cons}
-use Rattle.sheet.specs.Records.{Figures}
+use Rattle.sheet.specs.Records.{factor_at}
+use Rattle.sheet.specs.Views.{stroke_of_position}
 use Rattle.fit.specs.Lists.{Each}
 use Rattle.fit.specs.Fits.{Multiples, chain_break, level_overloaded}
-use Rattle.fit.proofs.Lists.{each_at, each_of}
+use Rattle.fit.proofs.Lists.{each_at, each_of, each_all}
 use Rattle.fit.proofs.Levels.{chain_multiples}
 use Rattle.fit.proofs.Blocking.{over_along, over_from_first, over_exactly}
 use Rattle.fit.proofs.Passes.{level_bound}
-use Rattle.checker.specs.Steps.{judged, InRange}
+use Rattle.checker.specs.Steps.{judged}
 
 -- the quotient tells whether a number is a multiple
 times_rest : (m d : ℕ) → m / d * d ≡ m → eqb (m % d) 0 ≡ true
@@ -103,13 +104,18 @@ pass_end e q M Q D l load d room i h pos k =
     let over : level_overloaded e q M Q D l ≡ false = k.over (chain_multiples M 1 l whole) pos ∙ rw (drop_of_length-le l {i = i} h) in
     rw (whole, over)
 
--- what the code knows of each task
-module _ (f : Figures) (l : List ℕ) (r : InRange f) (h : Each (λ i. i < f.tasks) l) where
-  pub factors_above : Each (λ i. 0 < f.factor i) l
-  factors_above = each_of {P = λ i. i < f.tasks} l r.factors h
+-- what the code knows of each listed task: its record is there, and its factor is above 0
+module _ (records l : List ℕ) (h : Each (λ i. (10 * i + 10 ≤ length records) × (0 < factor_at records i)) l) where
+  pub factors_above : Each (λ i. 0 < factor_at records i) l
+  factors_above = each_of l (λ i p. p.1) h
 
-  pub strokes_short : Each (λ i. f.stroke i ≤ 255) l
-  strokes_short = each_of {P = λ i. i < f.tasks} l r.strokes h
+  pub record_inside : (i at : ℕ) → i < length l → at ≡ 10 * get_or l i 0 → at + 10 ≤ length records
+  record_inside i at q e = rw e (each_at (λ j. (10 * j + 10 ≤ length records) × (0 < factor_at records j)) 0 l i q h).0
 
-  pub record_inside : (tasks : List ℕ) (i at : ℕ) → 10 * f.tasks ≤ length tasks → i < length l → at ≡ 10 * get_or l i 0 → at + 10 ≤ length tasks
-  record_inside tasks i at long q e = omega (arith, each_at (λ i. i < f.tasks) 0 l i q h)
+-- a stroke is of one byte
+stroke_short : (stroked : Bool) (records : List ℕ) → ((i : ℕ) → get_or records i 0 < 256) → (i : ℕ) → stroke_of_position stroked records i ≤ 255
+stroke_short true records bytes i = omega (arith, bytes (10 * i + 5))
+stroke_short false records bytes i = omega arith
+
+pub strokes_short : (stroked : Bool) (records tasks l : List ℕ) → tasks ≡ records → ((i : ℕ) → get_or tasks i 0 < 256) → Each (λ i. stroke_of_position stroked records i ≤ 255) l
+strokes_short stroked records tasks l e bytes = each_all _ l (stroke_short stroked records (λ i. subst (λ t. get_or t i 0 < 256) e (bytes i)))

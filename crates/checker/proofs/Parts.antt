@@ -37,18 +37,14 @@ clear_order b f e =
     let stroke = scan_clear 25 _ _ budget.1 in
     whole_clear b (scan_clear 23 _ _ stroke.1).0
 
-clear_range : (b : Bool) (f : Figures) → f.tasks ≤ 64 → f.cores < 256 → ((i : ℕ) → f.stroke i ≤ 255) → None ≡ scan (early_rows b f) → InRange f
+clear_range : (b : Bool) (f : Figures) → f.tasks ≤ 64 → f.cores < 256 → None ≡ scan (early_rows b f) → InRange f
 unfolding early_rows
-clear_range b f n c short e =
+clear_range b f n c e =
     let rows = scan_clears (task_rows b f) (core_rows f) e in
     let tasks : TasksInRange f = (tasks_kept b f rows.0).1 in
-    record { count = n; cores = λ i z. omega (arith, tasks.core i z); strokes = λ i z. short i; factors = λ i z. ((cores_kept f rows.1).factor i z).0 }
+    record { count = n; cores = λ i z. omega (arith, tasks.core i z); factors = λ i z. ((cores_kept f rows.1).factor i z).0 }
 
-stroke_short : (stroked : Bool) (records : List ℕ) → ((i : ℕ) → get_or records i 0 < 256) → (i : ℕ) → stroke_of_position stroked records i ≤ 255
-stroke_short true records bytes i = omega (arith, bytes (10 * i + 5))
-stroke_short false records bytes i = omega arith
-
-module _ (grouped stroked : Bool) (records cores on : List ℕ) (n c : ℕ) (after : cores ≡ drop (10 * n) records) (few : n ≤ 64) (small : c < 256) (bytes : (i : ℕ) → get_or records i 0 < 256) (column : Column (core_of_position grouped c records cores) (min n 64) on) (b : Bool) (order : b ≡ (grouped && misordered (period_at records) (number_at records) (at on) (count_at cores) n c)) where
+module _ (grouped stroked : Bool) (records cores on : List ℕ) (n c : ℕ) (after : cores ≡ drop (10 * n) records) (few : n ≤ 64) (small : c < 256) (column : Column (core_of_position grouped c records cores) (min n 64) on) (b : Bool) (order : b ≡ (grouped && misordered (period_at records) (number_at records) (at on) (count_at cores) n c)) where
   abbrev f : Figures
   f = figures_with (at on) (stroke_of_position stroked records) n c records cores
 
@@ -75,7 +71,7 @@ module _ (grouped stroked : Bool) (records cores on : List ℕ) (n c : ℕ) (aft
     -- what rules 13 and 14 need
     pub part_ready : InRange f × (grouped ≡ true → Sorted f)
     part_ready = (
-      clear_range b f few small (stroke_short stroked records bytes) e,
+      clear_range b f few small e,
       λ g. record {
         cores = λ i j l m. rw (counted g i (omega arith), counted g j m) (core_rises (count_at cores) c i j (omega arith));
         above = λ i j l m q. grouped_sorted (period_at records) (number_at records) (count_at cores) n c (ordered g) i j l m (sym (counted g i (omega arith)) ∙ q ∙ counted g j m);
@@ -107,9 +103,9 @@ module _ (s : List ℕ) (framed : Framed s) (bytes : (i : ℕ) → get_or s i 0 
 
   module _ (column : Column (core_of_position grouped c records cores) (min n 64) on) (b : Bool) (order : b ≡ (grouped && misordered (period_at records) (number_at records) (at on) (count_at cores) n c)) where
     pub held_rows : scan (early_rows b held ++ fit_rows held) ≡ scan (part_rows (is_grouped s) (is_stroked s) (task_count s) (core_count s) (drop 8 s))
-    held_rows = ap scan (rows grouped stroked records cores on n c after few small byte column b order) ∙ rw (part s 8, en, ec, eg, es)
+    held_rows = ap scan (rows grouped stroked records cores on n c after few small column b order) ∙ rw (part s 8, en, ec, eg, es)
 
     pub held_ready : None ≡ scan (early_rows b held) → (10 * n ≤ length records) × InRange held × (grouped ≡ true → Sorted held)
     held_ready e =
-        let ready : InRange held × (grouped ≡ true → Sorted held) = part_ready grouped stroked records cores on n c after few small byte column b order e in
+        let ready : InRange held × (grouped ≡ true → Sorted held) = part_ready grouped stroked records cores on n c after few small column b order e in
         (rw (part s 8) (simp length-drop (omega (arith, framed.size))), ready.0, ready.1)

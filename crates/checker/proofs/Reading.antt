@@ -33,6 +33,17 @@ module _ (tasks : List ℕ) (t a : ℕ) (e : a ≡ 10 * t) where
   pub factor_read : factor_at (take (a + 10 - a) (drop a tasks)) 0 ≡ factor_at tasks t
   factor_read = rw (whole, e) (factor_part tasks t 10 (omega arith))
 
+-- the same where the records are held under another name
+module _ (held tasks : List ℕ) (t a x : ℕ) (h : held ≡ tasks) (e : a ≡ 10 * t) where
+  pub factor_held : x ≡ factor_at (take (a + 10 - a) (drop a held)) 0 → x ≡ factor_at tasks t
+  factor_held r = r ∙ rw h (factor_read tasks t a e)
+
+  pub budget_held : x ≡ budget_at (take (a + 10 - a) (drop a held)) 0 → x ≡ budget_at tasks t
+  budget_held r = r ∙ rw h (budget_read tasks t a e)
+
+  pub stroke_held : (stroked : Bool) → x ≡ stroke_of_position stroked (take (a + 10 - a) (drop a held)) 0 → x ≡ stroke_of_position stroked tasks t
+  stroke_held stroked r = r ∙ rw h (stroke_read tasks t a e stroked)
+
 -- the record of core k
 module _ (cores : List ℕ) (k a : ℕ) (e : a ≡ 8 * k) where
   core_whole : a + 8 - a ≡ 8

@@ -34,9 +34,8 @@ pub record Sorted (f : Figures) : Type 0 where
   pub cores : (i j : ℕ) → i < j → j < f.tasks → f.core i ≤ f.core j
   pub above : (i j : ℕ) → i < j → j < f.tasks → f.core i ≡ f.core j → Above f.period i j
 
--- what rules 13 and 14 need of the figures: at most 64 tasks, on cores and with strokes of one byte, and every M above 0
+-- what rules 13 and 14 need of the figures: at most 64 tasks, on cores of one byte, and every M above 0
 pub record InRange (f : Figures) : Type 0 where
   pub count : f.tasks ≤ 64
   pub cores : (i : ℕ) → i < f.tasks → f.core i < 256
-  pub strokes : (i : ℕ) → i < f.tasks → f.stroke i ≤ 255
   pub factors : (i : ℕ) → i < f.tasks → 0 < f.factor i

@@ -43,14 +43,22 @@ fn judge_over(tasks: &[u8], list: &[u8]) -> Result<bool, Rejection>
     }
 }
 
+// The task records. (As what a call answers a proof knows that they are bytes.)
+fn task_records<'a>(r: &Records<'a>) -> &'a [u8]
+    ensures { result.now ≡ r.now.tasks.now }
+{
+    r.tasks
+}
+
 // Rules 13 and 14 over the tasks of core k in priority order, in one pass: whether it is over. `load` is that of the tasks passed at the
 // factor `last` of the last of them, `room` the least that one of them has to spare: before the first it is 2^40, above what any stroke takes.
 fn judge(r: &Records, k: u8, list: &[u8]) -> Result<bool, Rejection>
-    requires { (10 * r.now.n ≤ length r.now.tasks.now) × InRange (figures_by r.now) × Each (λ i. i < r.now.n) list.now }
+    requires { Each (λ i. (10 * i + 10 ≤ length r.now.tasks.now) × (0 < factor_at r.now.tasks.now i)) list.now }
     ensures { result ≡ judged (chain_break (figures_by r.now).factor 1 list.now) (level_overloaded (figures_by r.now).budget (figures_by r.now).stroke (figures_by r.now).factor ((figures_by r.now).pivot k) ((figures_by r.now).divisor k) list.now) }
 {
     // Read before the loop, so that the compiler makes one loop for each version.
     let stroked = r.stroked;
+    let tasks = task_records(r);
     let pivot = sheet::pivot(r.cores, k);
     let divisor = sheet::divisor(r.cores, k);
     let mut load = 0;
@@ -58,7 +66,7 @@ fn judge(r: &Records, k: u8, list: &[u8]) -> Result<bool, Rejection>
     let mut room = 1 << 40;
     for &task in list {
         let at = sheet::offset(10, task);
-        let record = &r.tasks[at..at + 10];
+        let record = &tasks[at..at + 10];
         let m = sheet::factor(record, 0);
         let times = m / last;
         if times * last != m {

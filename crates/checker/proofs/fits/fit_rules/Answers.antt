@@ -3,7 +3,7 @@ use native.Mathlib.Omega.{arith}
 use Rattle.std.proofs.Common.{rules}
 use Rattle.order.proofs.Cutting.{cut_start}
 use Rattle.checker.specs.Rules.{fit_rows}
-use Rattle.checker.proofs.Judging.{part_rises, part_next, part_members, part_judged, fit_start, fit_broken, fit_turn, fit_end}
+use Rattle.checker.proofs.Judging.{part_rises, part_next, part_held, part_judged, fit_start, fit_broken, fit_turn, fit_end}
 use Rattle.checker.proofs.fits.fit_rules.Goals as goal
 
 pub order_of-list-requires : goal.order_of-list-requires
@@ -22,7 +22,7 @@ pub slice_bounds-judge-end : goal.slice_bounds-judge-end
 slice_bounds-judge-end c = (part_rises _ _ _ _ c.requires.1 (omega (arith, c.loop-k-test.true)) c.order_of-list.ensures c.loop-k.invariant.from _ c.end_on-to.ensures).1
 
 pub judge-requires : goal.judge-requires
-judge-requires c = (c.requires.0, c.requires.1, part_members _ _ _ _ c.requires.1 (omega (arith, c.loop-k-test.true)) c.order_of-list.ensures c.loop-k.invariant.from _ c.end_on-to.ensures)
+judge-requires c = part_held _ _ _ _ c.requires.1 (omega (arith, c.loop-k-test.true)) c.order_of-list.ensures c.loop-k.invariant.from _ c.requires.0 _ c.end_on-to.ensures
 
 pub returns-in_err-over : goal.returns-in_err-over
 unfolding fit_rows
