@@ -169,7 +169,8 @@ fn put_cores(out: &mut [u8], from: usize, r: &Records, periods: &[u16]) -> usize
     at
 }
 
-// The text of an accepted sheet.
+// The text of an accepted sheet. Not inlined: its lines and columns would stand on the stack below the checker.
+#[inline(never)]
 fn put_sheet(out: &mut [u8], sheet: &[u8], n: u8, c: u8) -> usize
     requires { (verdict sheet.now ≡ accepted n c) × (8192 ≤ length out.old) }
     ensures { Capped 8192 out.old 0 (sheet_text (word sheet.now 3) (figures sheet.now)) out.new result }
