@@ -24,16 +24,18 @@ use sheet::{Records, Refusal, Rejection};
 type Line = ArrayString<114>;
 
 // A word with its space, a number, and the byte that ends the field: at most 8 bytes, 10 digits and 1 byte. `write!` promises its bytes only
-// where it does not fail, and does not promise that it does not. Inlined, since a copy between two references would need C's `memmove`.
-#[inline(always)]
+// where it does not fail, and does not promise that it does not. The field is made here and then copied: a copy from `name` into `line` itself,
+// both lent, would need C's `memmove`.
 fn push_field(line: &mut Line, name: &str, x: u32, end: char)
     requires { (length name.now ≤ 8) × (length line.old.bytes + 19 ≤ 114) × (end < 128) }
     ensures bytes { line.new.bytes ≡ line.old.bytes ++ field name.now x end }
     ensures short { length line.new.bytes ≤ length line.old.bytes + 19 }
 {
-    line.push_str(name);
-    line.push_str(Buffer::new().format(x));
-    line.push(end);
+    let mut field = ArrayString::<19>::new();
+    field.push_str(name);
+    field.push_str(Buffer::new().format(x));
+    field.push(end);
+    line.push_str(field.as_str());
 }
 
 // The lines: that of a refusal has 2 fields, the first one of a sheet 3, a task's 6 and a core's 4.
@@ -167,7 +169,8 @@ fn put_cores(out: &mut [u8], from: usize, r: &Records, periods: &[u16]) -> usize
     at
 }
 
-// The text of an accepted sheet.
+// The text of an accepted sheet. Not inlined: its lines and columns would stand on the stack below the checker.
+#[inline(never)]
 fn put_sheet(out: &mut [u8], sheet: &[u8], n: u8, c: u8) -> usize
     requires { (verdict sheet.now ≡ accepted n c) × (8192 ≤ length out.old) }
     ensures { Capped 8192 out.old 0 (sheet_text (word sheet.now 3) (figures sheet.now)) out.new result }
