@@ -1,7 +1,7 @@
 // The two starts of a core, from a sheet and from a job list (docs/SHEET.md, sections 6, 7 and 14).
 #![tactic(auto)]
 
-ghost use Rattle.std.specs.Prelude.{ℕ, ◌≡◌, ◌*◌, ◌<◌, ◌≤◌, [], length, map};
+ghost use Rattle.std.specs.Prelude.{ℕ, ◌≡◌, ◌*◌, ◌<◌, ◌≤◌, [], length, map, take};
 ghost use Rattle.sheet.specs.Records.{period_at, budget_at};
 ghost use Rattle.sheet.specs.Views.{number_of_position, stroke_of_position, positioned_in};
 ghost use Rattle.fit.specs.declared.By.TheVariants.{Period};
@@ -47,15 +47,15 @@ fn empty() -> Core
 
 // The state of the tasks of an order, each of them as `task` makes it.
 fn state_by<F: Fn(u8) -> Task>(order: &Order, task: F) -> Core
-    requires few { length order.now.items ≤ 64 }
+    requires few { order.now.count ≤ 64 }
     requires makes { F.IsAlwaysCallable task }
-    ensures { (t : ℕ → Task) → ((j : ℕ) (u : Task) → j < 256 → F.post task j u → u ≡ t j) → result ≡ state_of (map t order.now.items) }
+    ensures { (t : ℕ → Task) → ((j : ℕ) (u : Task) → j < 256 → F.post task j u → u ≡ t j) → result ≡ state_of (map t (take order.now.count order.now.tasks)) }
 {
     let mut core = empty();
     for (i, &j) in order.as_slice().iter().enumerate() {
         core.tasks[i] = task(j);
     }
-    core.count = order.len();
+    core.count = order.count;
     core
 }
 

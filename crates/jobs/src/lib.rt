@@ -6,6 +6,7 @@ ghost use Rattle.std.specs.List.{find, range_with_len};
 ghost use Rattle.sheet.specs.Table.{scan, refusal_of};
 ghost use Rattle.sheet.specs.Ranges.{bad_period, bad_budget};
 ghost use Rattle.fit.specs.Ring.{order_by};
+ghost use Rattle.fit.specs.Answers.{Ordered};
 ghost use Rattle.jobs.specs.Jobs.{job_period, job_budget, list_rows};
 
 use fit::{By, Order};
@@ -13,7 +14,7 @@ use sheet::{Refusal, Rejection};
 
 // The tasks of a job list of n entries in priority order or in ring order; of more than 64 the first 64.
 pub fn in_order(by: By, jobs: &[u8], n: u8) -> Order
-    ensures { result.items ≡ order_by by (job_period jobs.now) (min n 64) }
+    ensures { Ordered (order_by by (job_period jobs.now) (min n 64)) result }
 {
     let periods = fit::periods_of(jobs, 4, n);
     order::sorted(by, &periods, n)

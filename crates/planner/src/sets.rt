@@ -11,7 +11,6 @@ ghost use Rattle.planner.specs.Steps.{figures_in, Assigned, spread as spreadOver
 use crate::{Assignment, store};
 use arrayvec::ArrayVec;
 use figures::CoreFigures;
-use fit::Order;
 
 // A job list of at most 64 entries, and all its tasks in priority order.
 #[derive(Clone, Copy)]
@@ -69,10 +68,10 @@ impl Jobs<'_> {
 
     // The tasks of core k in priority order.
     #[tactic(auto, using(crate::proofs::Gathering::select_on, crate::proofs::Gathering::select_off), unfolding(fit::specs::Lists::select))]
-    fn tasks_on(&self, a: &Assignment, k: u8) -> Order
+    fn tasks_on(&self, a: &Assignment, k: u8) -> ArrayVec<u8, 64>
         ensures { result.items ≡ select (is_on (at a.now.core) k) self.now.order.now }
     {
-        let mut tasks = Order::new();
+        let mut tasks = ArrayVec::new();
         for &i in self.order {
             if a.core_of(i) == k {
                 tasks.push(i);

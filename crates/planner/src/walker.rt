@@ -8,12 +8,13 @@ ghost use Rattle.planner.specs.Steps.{takes_in, core_in, walk_in, fitted};
 
 use crate::Assignment;
 use crate::sets::Jobs;
-use fit::{By, Order};
+use arrayvec::ArrayVec;
+use fit::By;
 use sheet::{Refusal, Rejection};
 
 // Puts a part of a list behind an order. One task at a time and inlined: `rotate_left` and `try_extend_from_slice` would need C's `memmove`.
 #[inline(always)]
-fn append(order: &mut Order, part: &[u8])
+fn append(order: &mut ArrayVec<u8, 64>, part: &[u8])
     requires { length order.old.items + length part.now ≤ 64 }
     ensures { order.new.items ≡ order.old.items ++ part.now }
 {
@@ -25,11 +26,11 @@ fn append(order: &mut Order, part: &[u8])
 // A list walked once round from a start.
 #[tactic(auto, unfolding(crate::specs::FirstFit::rotate))]
 #[inline(always)]
-fn turned(ring: &[u8], start: usize) -> Order
+fn turned(ring: &[u8], start: usize) -> ArrayVec<u8, 64>
     requires { (start ≤ length ring.now) × (length ring.now ≤ 64) }
     ensures { result.items ≡ rotate start ring.now }
 {
-    let mut turned = Order::new();
+    let mut turned = ArrayVec::new();
     append(&mut turned, &ring[start..]);
     append(&mut turned, &ring[..start]);
     turned

@@ -10,4 +10,4 @@ unfolding fresh_by
 returns c =
     let p = job_period c.args.list.now in
     let e = job_budget c.args.list.now in
-    fresh_list p e c.args.n _ _ (search rules) c.in_order-order.ensures (c.state_by.ensures (λ j. fresh_task (p j) (e j) 1 j) (λ j u l k. search rules))
+    fresh_list p e c.args.n _ _ (search rules) c.in_order-order.ensures.tasks (c.state_by.ensures (λ j. fresh_task (p j) (e j) 1 j) (λ j u l k. search rules))

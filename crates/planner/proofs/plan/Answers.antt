@@ -14,7 +14,7 @@ overflow_cast-jobs c = omega (arith, count_fits _ _ _ _ c.in_ok-check_call.ensur
 pub invariant_of-jobs : goal.invariant_of-jobs
 invariant_of-jobs c =
     let clear = c.in_ok-check_call.ensures in
-    record { few = count_few _ _ _ _ clear; tasks = c.as_slice.ensures.value ∙ in_priority _ _ _ _ clear _ c.in_order-order.ensures }
+    record { few = count_few _ _ _ _ clear; tasks = c.as_slice.ensures ∙ in_priority _ _ _ _ clear _ c.in_order-order.ensures.tasks }
 
 pub overflow_cast-limit : goal.overflow_cast-limit
 overflow_cast-limit c = omega (arith, limit_few _ _ _ _ c.in_ok-check_call.ensures)
