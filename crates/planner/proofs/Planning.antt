@@ -44,14 +44,14 @@ pub all_sorted : (by : By) (p : ℕ → ℕ) (n : ℕ) → length (order_by by p
 unfolding order_by
 all_sorted by p n = order_length (key_of by p) (λ i. 0) 0 n ∙ rw (all_tasks n) (numbers_length 0 n)
 
--- the ring of a list, from its front and from a start
-module _ (l ring : List ℕ) (n : ℕ) (e : n ≡ job_count l) (few : job_count l ≤ 64) (h : ring ≡ order_by Ring (job_period l) (min n 64)) where
-  pub ring_long : length ring ≡ job_count l
-  ring_long = ap length (all_listed Ring l ring n e few h) ∙ all_sorted Ring (job_period l) (job_count l)
+-- all tasks are as many as the list has, in either order
+pub sorted_long : (by : By) (l o : List ℕ) (n : ℕ) → n ≡ job_count l → job_count l ≤ 64 → o ≡ order_by by (job_period l) (min n 64) → length o ≡ job_count l
+sorted_long by l o n e few h = ap length (all_listed by l o n e few h) ∙ all_sorted by (job_period l) (job_count l)
 
-  pub ring_walked : (limit start : ℕ) (turned : List ℕ) → turned ≡ rotate start ring → walk_in l limit turned ≡ fit_of l limit start
-  unfolding fit_of
-  ring_walked limit start turned t = rw (t, all_listed Ring l ring n e few h)
+-- the ring of a list, walked from a start
+pub ring_walked : (l ring : List ℕ) (n : ℕ) → n ≡ job_count l → job_count l ≤ 64 → ring ≡ order_by Ring (job_period l) (min n 64) → (limit start : ℕ) (turned : List ℕ) → turned ≡ rotate start ring → walk_in l limit turned ≡ fit_of l limit start
+unfolding fit_of
+ring_walked l ring n e few h limit start turned t = rw (t, all_listed Ring l ring n e few h)
 
 -- what a `?` hands on
 pub err_is : {A : Type 0} (g : Result A (Rejection ℕ)) (r : Rejection ℕ) → IsErrAnd g (λ e. e ≡ r) → g ≡ Err r
