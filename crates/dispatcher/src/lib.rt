@@ -45,31 +45,39 @@ fn empty() -> Core
     }
 }
 
-// The state of the tasks of an order, each of them as `task` makes it.
-fn state_by<F: Fn(u8) -> Task>(order: &Order, task: F) -> Core
+// Puts the tasks of an order, each of them as `task` makes it, into the state without tasks.
+fn fill<F: Fn(u8) -> Task>(core: &mut Core, order: &Order, task: F)
+    requires empty { core.old ≡ state_of [] }
     requires few { order.now.count ≤ 64 }
     requires makes { F.IsAlwaysCallable task }
-    ensures { (t : ℕ → Task) → ((j : ℕ) (u : Task) → j < 256 → F.post task j u → u ≡ t j) → result ≡ state_of (map t (take order.now.count order.now.tasks)) }
+    ensures { (t : ℕ → Task) → ((j : ℕ) (u : Task) → j < 256 → F.post task j u → u ≡ t j) → core.new ≡ state_of (map t (take order.now.count order.now.tasks)) }
 {
-    let mut core = empty();
     for (i, &j) in order.as_slice().iter().enumerate() {
         core.tasks[i] = task(j);
     }
     core.count = order.count;
-    core
 }
 
-// The fresh state of core k of a sheet of n tasks and c cores; `grouped` says that it is of version 2, `stroked` of version 3. `records` is the
-// sheet's part from byte 8.
-fn of_core(grouped: bool, stroked: bool, records: &[u8], n: u8, c: u8, k: u8) -> Core
-    requires { (n ≤ 64) × (10 * n ≤ length records.now) }
-    ensures { result ≡ state_of (fresh_by (period_at records.now) (budget_at records.now) (stroke_of_position stroked records.now) (number_of_position grouped records.now) (order_on (positioned_in grouped stroked n c records.now) k)) }
+// Puts the fresh tasks of core k of a sheet of n tasks and c cores into the state without tasks; `grouped` says that the sheet is of version 2,
+// `stroked` of version 3. `records` is the sheet's part from byte 8.
+fn fill_from_sheet(
+    core: &mut Core,
+    grouped: bool,
+    stroked: bool,
+    records: &[u8],
+    n: u8,
+    c: u8,
+    k: u8,
+)
+    requires empty { core.old ≡ state_of [] }
+    requires room { (n ≤ 64) × (10 * n ≤ length records.now) }
+    ensures { core.new ≡ state_of (fresh_by (period_at records.now) (budget_at records.now) (stroke_of_position stroked records.now) (number_of_position grouped records.now) (order_on (positioned_in grouped stroked n c records.now) k)) }
 {
     let cores = &records[10 * usize::from(n)..];
     let on = views::cores_of(grouped, records, cores, n, c);
     let periods = fit::periods_of(records, 10, n);
     let order = order::on_core(&periods, &on, n, k);
-    state_by(&order, |j| {
+    fill(core, &order, |j| {
         let stroke = sheet::stroke(stroked, records, j);
         let number = views::number_of(grouped, records, j);
         fresh(
@@ -78,19 +86,21 @@ fn of_core(grouped: bool, stroked: bool, records: &[u8], n: u8, c: u8, k: u8) ->
             stroke,
             number,
         )
-    })
+    });
 }
 
-// The fresh state of a job list of n entries.
-fn of_list(list: &[u8], n: u8) -> Core
-    requires { n ≤ 64 }
-    ensures { result ≡ state_of (fresh_tasks (job_period list.now) (job_budget list.now) (λ i. 1) (order_by Period (job_period list.now) n)) }
+// Puts the fresh tasks of a job list of n entries into the state without tasks.
+fn fill_from_list(core: &mut Core, list: &[u8], n: u8)
+    requires empty { core.old ≡ state_of [] }
+    requires few { n ≤ 64 }
+    ensures { core.new ≡ state_of (fresh_tasks (job_period list.now) (job_budget list.now) (λ i. 1) (order_by Period (job_period list.now) n)) }
 {
     let order = jobs::in_order(By::Period, list, n);
-    state_by(
+    fill(
+        core,
         &order,
         |j| fresh(jobs::period(list, j), jobs::budget(list, j), 1, j),
-    )
+    );
 }
 
 // Starts a core from a sheet of any version and a core number: 1 to 14, 23 and 25, then 9 where there is no such core, else its fresh state.
@@ -98,18 +108,28 @@ pub fn start_sheet(sheet: &[u8], core: u64) -> Step
     ensures sheet_start { SheetStart sheet.now core result }
     ensures on_time { Timely sheet.now core result }
 {
+    let mut state = empty();
     let Counts { tasks, cores } = match checker::check(sheet) {
         Ok(counts) => counts,
-        Err(why) => return Step::refused(empty(), why),
+        Err(why) => return Step::refused(state, why),
     };
     if u64::from(cores) <= core {
-        return Step::refused(empty(), Refusal::Core.at(0));
+        return Step::refused(state, Refusal::Core.at(0));
     }
     let grouped = sheet::is_grouped(sheet);
     let stroked = sheet::is_stroked(sheet);
+    fill_from_sheet(
+        &mut state,
+        grouped,
+        stroked,
+        &sheet[8..],
+        tasks,
+        cores,
+        core as u8,
+    );
     Step {
         answer: Ok(Reply::Accepted),
-        core: of_core(grouped, stroked, &sheet[8..], tasks, cores, core as u8),
+        core: state,
     }
 }
 
@@ -117,12 +137,14 @@ pub fn start_sheet(sheet: &[u8], core: u64) -> Step
 pub fn start_list(list: &[u8]) -> Step
     ensures { ListStart list.now result }
 {
+    let mut state = empty();
     if let Err(why) = jobs::check_list(list, 0) {
-        return Step::refused(empty(), why);
+        return Step::refused(state, why);
     }
     let n = list.len() / 4;
+    fill_from_list(&mut state, list, n as u8);
     Step {
         answer: Ok(Reply::Accepted),
-        core: of_list(list, n as u8),
+        core: state,
     }
 }

@@ -1,7 +1,7 @@
 use Rattle.std.proofs.Common.{rules, length, ◌≡◌}
 use lib.ListN.{length-take}
 use Rattle.dispatcher.proofs.Starting.{fill_start, fill_turn, fill_end}
-use Rattle.dispatcher.proofs.state_by.Goals as goal
+use Rattle.dispatcher.proofs.fill.Goals as goal
 
 pub loop-i-init : goal.loop-i-init
 loop-i-init g c = λ t k. search (fill_start, rules)
