@@ -196,18 +196,14 @@ impl From<Step> for StepAnswer {
 
     #[tactic(auto, unfolding(crate::specs::Answers::stepped_of))]
     fn from(step: Step) -> StepAnswer {
-        let core = step.core;
-        match step.answer {
-            Ok(_) => StepAnswer {
-                refusal: 0,
-                place: 0,
-                core,
-            },
-            Err(Rejection { word, place }) => StepAnswer {
-                refusal: u8::from(word),
-                place,
-                core,
-            },
+        let (refusal, place) = match step.answer {
+            Ok(_) => (0, 0),
+            Err(Rejection { word, place }) => (u8::from(word), place),
+        };
+        StepAnswer {
+            refusal,
+            place,
+            core: step.core,
         }
     }
 }
