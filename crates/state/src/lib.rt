@@ -126,18 +126,16 @@ impl Core {
         next
     }
 
-    // The state without its stroke, if that is of the task with this number.
+    // The state without its stroke, if that is of the task with this number. The copy keeps the bytes that no field has.
     fn without_stroke(self, number: u8) -> Core
         ensures { result ≡ with_stroke self (cond (eqb self.stroke_task number) no_stroke (stroke_in self)) }
     {
-        if self.stroke_task != number {
-            return self;
+        let mut next = self;
+        if next.stroke_task == number {
+            next.stroke_task = 0;
+            next.stroke_left = 0;
         }
-        Core {
-            stroke_task: 0,
-            stroke_left: 0,
-            ..self
-        }
+        next
     }
 
     // The place of the task that a release names, and the task with its new job: 21, 17, 18, 19.
