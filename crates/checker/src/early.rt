@@ -25,8 +25,7 @@ fn used_cores(on: &[u8], n: u8) -> [bool; 256]
     used
 }
 
-// The first core that has no task. Not inlined: the flags of all cores would stand on the stack below the sort.
-#[inline(never)]
+// The first core that has no task.
 fn first_bare(r: &Records) -> Option<u8>
     ensures { result ≡ find (bare r.now.n (figures_by r.now).core) (numbers 0 r.now.c) }
 {

@@ -171,8 +171,7 @@ fn by_core(sheet: &[u8], n: u8, c: u8) -> Arrangement
     core_by_core(&periods, &on, n, c)
 }
 
-// Writes the sheet of the other version, and returns its length. Not inlined: its columns would stand on the stack below the checker.
-#[inline(never)]
+// Writes the sheet of the other version, and returns its length.
 fn write_other(out: &mut [u8], sheet: &[u8], n: u8, c: u8) -> u16
     requires { (712 ≤ length out.old) × Sized sheet.now n c }
     ensures { (result ≡ length (moved sheet.now)) × (out.new ≡ over (moved sheet.now) out.old) }
