@@ -1,8 +1,8 @@
 -- What tasks ask for in t ticks: bounds, growth with t, and the sum of the definition.
 -- Assumes nothing.
-use Rattle.std.proofs.Common.{◌≡◌, refl, ap, ◌∙◌, ℕ, suc, ◌+◌, ◌-◌, ◌*◌, ◌/◌, ◌≤◌, List, [], ◌∷◌, length, arith}
+use Rattle.std.proofs.Common.{◌≡◌, refl, ap, ◌∙◌, ℕ, suc, ◌+◌, ◌-◌, ◌*◌, ◌/◌, ◌≤◌, List, [], ◌∷◌, arith}
 use Rattle.std.specs.Prelude.{All, map, sum_by}
-use Rattle.std.proofs.lemmas.List.Sums.{sum_by-le, sum_by-cons}
+use Rattle.std.proofs.lemmas.List.Sums.{sum_by-cons}
 use native.Mathlib.Nat.{le_trans, mul-le-mul_left, mul-le-mul_right, mul-div-le}
 use Rattle.fit.specs.Lists.{sum}
 use Rattle.fit.specs.Rounding.{ceiling}
@@ -18,9 +18,6 @@ asked_bound task t r h =
     let x : ℕ = t + task.period - 1 in
     let small : task.budget * (x / task.period) ≤ x = le_trans (mul-le-mul_right (x / task.period) r.budget_max) (mul-div-le x task.period) in
     omega (arith, r.period_max)
-
-pub total_bound : (tasks : List Task) (t : ℕ) → All IsInRange tasks → t ≤ 60000 → sum_by (asked t) tasks ≤ length tasks * 120000
-total_bound tasks t r h = sum_by-le (asked t) 120000 tasks (λ k d q. asked_bound _ t (r k d q) h)
 
 -- what is asked grows with t
 total_grows : (s t : ℕ) (tasks : List Task) → s ≤ t → All IsInRange tasks → sum_by (asked s) tasks ≤ sum_by (asked t) tasks

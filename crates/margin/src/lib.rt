@@ -1,7 +1,7 @@
 // The margin of a task of a job list: how many ticks its jobs have to spare on the bench (docs/SHEET.md, section 11).
 #![tactic(auto)]
 
-ghost use Rattle.std.specs.Prelude.{◌≡◌, ◌+◌, ◌*◌, ◌≤◌, ◌<◌, All, length, map, pos, ◌-ℤ◌, nat_abs};
+ghost use Rattle.std.specs.Prelude.{◌≡◌, ◌+◌, ◌*◌, ◌≤◌, ◌<◌, All, length, map, take, pos, ◌-ℤ◌, nat_abs};
 ghost use Rattle.fit.specs.Lists.{numbers};
 ghost use Rattle.jobs.specs.Jobs.{job_count, job_period, job_budget, Listed};
 ghost use Rattle.margin.specs.Margin.{tasks_above, smallest, margin_from};
@@ -9,7 +9,6 @@ ghost use Rattle.margin.specs.Answers.{outcome_of, margin_in, margin_answer};
 ghost use Rattle.margin.specs.Exact.{Exact};
 ghost use Rattle.margin.specs.Steps.{task_at, asked, demand_below, IsInRange};
 
-use arrayvec::ArrayVec;
 use sheet::{Refusal, Rejection};
 
 // A task of a job list.
@@ -37,6 +36,13 @@ impl Task {
     {
         u32::from(self.budget) * t.div_ceil(u32::from(self.period))
     }
+}
+
+// The tasks that have priority over one: the first `count` places.
+#[derive(Clone, Copy)]
+struct HigherTasks {
+    count: usize,
+    tasks: [Task; 64],
 }
 
 // The demand at t of a task with this budget, below tasks that have priority over it.
@@ -69,19 +75,26 @@ fn ticks_needed(higher: &[Task], task: Task) -> u32
     demand_at(higher, task.budget, period)
 }
 
-// The tasks of a job list of n entries that have priority over task i.
-fn tasks_above(list: &[u8], n: u8, i: u8) -> ArrayVec<Task, 64>
+// The tasks of a job list of n entries that have priority over task i. Each is laid at the place past those found so far, which counts only
+// if it is above.
+fn tasks_above(list: &[u8], n: u8, i: u8) -> HigherTasks
     requires { n ≤ 64 }
-    ensures { result.items ≡ map (task_at (job_period list.now) (job_budget list.now)) (tasks_above (job_period list.now) (numbers 0 n) i) }
+    ensures fits { result.count ≤ 64 }
+    ensures tasks { take result.count result.tasks ≡ map (task_at (job_period list.now) (job_budget list.now)) (tasks_above (job_period list.now) (numbers 0 n) i) }
 {
     let own = jobs::period(list, i);
-    let mut higher = ArrayVec::new();
+    let mut higher = HigherTasks {
+        count: 0,
+        tasks: [Task::default(); 64],
+    };
+    // Not in the struct, so that the loop keeps it in a register.
+    let mut count = 0;
     for j in 0..n {
         let task = Task::at(list, j);
-        if fit::is_above(task.period, j, own, i) {
-            higher.push(task);
-        }
+        higher.tasks[count] = task;
+        count += usize::from(fit::is_above(task.period, j, own, i));
     }
+    higher.count = count;
     higher
 }
 
@@ -91,7 +104,8 @@ fn margin_of(list: &[u8], n: u8, i: u8) -> i32
     ensures { result ≡ margin_in list.now i }
 {
     let task = Task::at(list, i);
-    let needed = ticks_needed(&tasks_above(list, n, i), task);
+    let higher = tasks_above(list, n, i);
+    let needed = ticks_needed(&higher.tasks[..higher.count], task);
     i32::from(task.period) - needed as i32
 }
 

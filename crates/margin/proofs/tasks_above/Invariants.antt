@@ -1,4 +1,4 @@
-use Rattle.std.proofs.Common.{◌≡◌, ◌≤◌, length}
+use Rattle.std.proofs.Common.{◌≡◌, ◌≤◌, length, take}
 use Rattle.std.specs.Prelude.{map}
 use Rattle.fit.specs.Lists.{numbers}
 use Rattle.jobs.specs.Jobs.{job_period, job_budget}
@@ -8,6 +8,7 @@ use Rattle.margin.proofs.tasks_above.Given as goal
 
 abbrev pub invariant-loop-j : goal.invariant-loop-j
 invariant-loop-j l = record {
-  items : l.higher.items ≡ map (task_at (job_period l.list) (job_budget l.list)) (tasks_above (job_period l.list) (numbers 0 l.j) l.i);
-  room : length l.higher.items ≤ l.j;
+  items : take l.count l.higher.tasks ≡ map (task_at (job_period l.list) (job_budget l.list)) (tasks_above (job_period l.list) (numbers 0 l.j) l.i);
+  room : l.count ≤ l.j;
+  size : length l.higher.tasks ≡ 64;
 }

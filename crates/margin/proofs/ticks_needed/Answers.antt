@@ -3,7 +3,7 @@ use Rattle.margin.proofs.Search.{search_turn, search_hit, search_end}
 use Rattle.margin.proofs.ticks_needed.Goals as goal
 
 pub returns-then-demand-t : goal.returns-then-demand-t
-returns-then-demand-t c = (search_hit _ _ _ c.loop-t.invariant _ _ _ (omega arith) c.demand_at-demand.ensures.0 c.if-demand-t.true, omega arith)
+returns-then-demand-t c = (search_hit _ _ _ c.loop-t.invariant _ _ _ (omega arith) c.demand_at-demand.ensures.0 (omega arith), omega arith)
 
 pub loop-t-preserved : goal.loop-t-preserved
 loop-t-preserved c = search_turn _ _ _ c.loop-t.invariant _ c.requires.0 c.demand_at-demand.ensures.0 (omega arith)
