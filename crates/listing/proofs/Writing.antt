@@ -7,7 +7,7 @@ use native.Mathlib.Nat.{add-zero}
 use native.Mathlib.Omega.{arith}
 use lib.ListN.{length, take, drop, length-append, length-take, length-drop, take-append-drop}
 use lib.Seq.{drop-drop, take_at, drop_at}
-use Rattle.listing.specs.Steps.{IsLine, Put, Capped}
+use Rattle.listing.specs.Steps.{Put, Capped}
 
 -- nothing
 pub put_none : (out : List ℕ) (at : ℕ) → at ≤ length out → Put out at [] out at
@@ -53,5 +53,5 @@ capped_none out at h = record { put = put_none out at h; cap = omega arith }
 pub capped_join : {out mid new t u : List ℕ} {at next after a b : ℕ} → Capped b mid next u new after → Capped a out at t mid next → Capped (a + b) out at (t ++ u) new after
 capped_join q p = record { put = put_join q.put p.put; cap = omega (arith, q.cap, p.cap) }
 
-pub capped_line : {out new line bytes : List ℕ} {at after most : ℕ} → IsLine most line bytes → Put out at bytes new after → Capped most out at line new after
-capped_line l p = record { put = rw l.same at p; cap = omega (arith, p.next, l.short) }
+pub capped_put : {out new t : List ℕ} {at after most : ℕ} → Put out at t new after → length t ≤ most → Capped most out at t new after
+capped_put p h = record { put = p; cap = omega (arith, p.next) }
