@@ -11,37 +11,45 @@ ghost use Rattle.fit.specs.Fits.{within};
 ghost use Rattle.fit.specs.Cores.{order_on};
 ghost use Rattle.checker.specs.Accepted.{Fitting};
 ghost use Rattle.checker.specs.Verdict.{verdict, accepted};
+ghost use Rattle.listing.specs.Decimal.{decimal};
 ghost use Rattle.listing.specs.Listing.{field, header_line, task_line, thousandths, load_of, core_line, sheet_text, refused_line};
 ghost use Rattle.listing.specs.Steps.{Put, Capped};
 ghost use Rattle.listing.specs.Answers.{listed, holding, answer_of};
 
-use arrayvec::ArrayString;
 use checker::Counts;
 use itoa::Buffer;
 use sheet::{Records, Refusal, Rejection};
 
 // Puts a text into the output at a place and returns the place after it.
-fn put(out: &mut [u8], at: usize, text: &str) -> usize
+fn put(out: &mut [u8], at: usize, text: &[u8]) -> usize
     requires { at + length text.now ≤ length out.old }
     ensures { Put out.old at text.now out.new result }
 {
     let end = at + text.len();
-    out[at..end].copy_from_slice(text.as_bytes());
+    out[at..end].copy_from_slice(text);
     end
 }
 
-// A word with its space, a number, and the byte that ends the field: at most 8 bytes, 10 digits and 1 byte. `write!` promises its bytes only
-// where it does not fail, and does not promise that it does not. The field is made here and then copied: a copy from `name` into `out` itself,
-// both lent, would need C's `memmove`.
-fn put_field(out: &mut [u8], at: usize, name: &str, x: u32, end: char) -> usize
-    requires { (length name.now ≤ 8) × (at + 19 ≤ length out.old) × (end < 128) }
+// `write!` promises its bytes only where it does not fail, and does not promise that it does not.
+#[inline(never)]
+fn put_number(out: &mut [u8], at: usize, x: u32) -> usize
+    requires { at + length (decimal x) ≤ length out.old }
+    ensures { Put out.old at (decimal x) out.new result }
+{
+    put(out, at, Buffer::new().format(x).as_bytes())
+}
+
+// A word with its space, a number, and the byte that ends the field: at most 8 bytes, 10 digits and 1 byte. Inlined, where the word is known:
+// a copy from `name` into `out`, both lent, would need C's `memmove`.
+#[inline(always)]
+fn put_field(out: &mut [u8], at: usize, name: &[u8], x: u32, end: u8) -> usize
+    requires { (length name.now ≤ 8) × (at + 19 ≤ length out.old) }
     ensures { Capped 19 out.old at (field name.now x end) out.new result }
 {
-    let mut field = ArrayString::<19>::new();
-    field.push_str(name);
-    field.push_str(Buffer::new().format(x));
-    field.push(end);
-    put(out, at, &field)
+    let next = put(out, at, name);
+    let next = put_number(out, next, x);
+    out[next] = end;
+    next + 1
 }
 
 // The lines: that of a refusal has 2 fields, the first one of a sheet 3, a task's 6 and a core's 4.
@@ -51,8 +59,8 @@ fn put_refused(out: &mut [u8], number: u8, place: u16) -> usize
     requires { 38 ≤ length out.old }
     ensures { Capped 38 out.old 0 (refused_line number place) out.new result }
 {
-    let next = put_field(out, 0, "refused ", u32::from(number), ' ');
-    put_field(out, next, "place ", u32::from(place), '\n')
+    let next = put_field(out, 0, b"refused ", u32::from(number), b' ');
+    put_field(out, next, b"place ", u32::from(place), b'\n')
 }
 
 #[tactic(auto, unfolding(crate::specs::Listing::header_line))]
@@ -60,9 +68,9 @@ fn put_header(out: &mut [u8], version: u16, n: u8, c: u8) -> usize
     requires { 57 ≤ length out.old }
     ensures { Capped 57 out.old 0 (header_line version n c) out.new result }
 {
-    let next = put_field(out, 0, "TSH ", u32::from(version), ' ');
-    let next = put_field(out, next, "tasks ", u32::from(n), ' ');
-    put_field(out, next, "cores ", u32::from(c), '\n')
+    let next = put_field(out, 0, b"TSH ", u32::from(version), b' ');
+    let next = put_field(out, next, b"tasks ", u32::from(n), b' ');
+    put_field(out, next, b"cores ", u32::from(c), b'\n')
 }
 
 // The whole part of q * m / d.
@@ -84,12 +92,12 @@ fn put_task(out: &mut [u8], at: usize, r: &Records, i: u8, j: u8) -> usize
     let budget = sheet::budget(r.tasks, j);
     let factor = sheet::factor(r.tasks, j);
     let within = within_of(sheet::pivot(r.cores, k), factor, sheet::divisor(r.cores, k));
-    let next = put_field(out, at, "task ", u32::from(i), ' ');
-    let next = put_field(out, next, "core ", u32::from(k), ' ');
-    let next = put_field(out, next, "period ", u32::from(period), ' ');
-    let next = put_field(out, next, "budget ", u32::from(budget), ' ');
-    let next = put_field(out, next, "factor ", factor, ' ');
-    put_field(out, next, "within ", within, '\n')
+    let next = put_field(out, at, b"task ", u32::from(i), b' ');
+    let next = put_field(out, next, b"core ", u32::from(k), b' ');
+    let next = put_field(out, next, b"period ", u32::from(period), b' ');
+    let next = put_field(out, next, b"budget ", u32::from(budget), b' ');
+    let next = put_field(out, next, b"factor ", factor, b' ');
+    put_field(out, next, b"within ", within, b'\n')
 }
 
 // A load in thousandths of a full one, rounded up.
@@ -118,16 +126,16 @@ fn put_core(out: &mut [u8], at: usize, r: &Records, list: &[u8], k: u8) -> usize
     ensures { Capped 76 out.old at (core_line (figures_by r.now) k) out.new result }
 {
     let load = load_of(r, list, k);
-    let next = put_field(out, at, "core ", u32::from(k), ' ');
+    let next = put_field(out, at, b"core ", u32::from(k), b' ');
     let next = put_field(
         out,
         next,
-        "pivot ",
+        b"pivot ",
         u32::from(sheet::pivot(r.cores, k)),
-        ' ',
+        b' ',
     );
-    let next = put_field(out, next, "divisor ", sheet::divisor(r.cores, k), ' ');
-    put_field(out, next, "load ", load, '\n')
+    let next = put_field(out, next, b"divisor ", sheet::divisor(r.cores, k), b' ');
+    put_field(out, next, b"load ", load, b'\n')
 }
 
 // The lines of the tasks by number; `positions` says where their records stand.

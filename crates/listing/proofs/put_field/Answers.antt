@@ -1,10 +1,12 @@
-use mathlib.Core.Path.{ap, ◌∙◌}
-use mathlib.Core.List.{[], ◌++◌}
-use Rattle.listing.proofs.Decimals.{field_short, field_put}
-use Rattle.listing.proofs.Writing.{capped_put}
+use Rattle.std.proofs.Common.{rules}
+use Rattle.listing.proofs.Decimals.{field_number, field_end, field_put}
 use Rattle.listing.proofs.put_field.Goals as goal
 
+pub put_number-next-requires : goal.put_number-next-requires
+put_number-next-requires c = search (field_number, rules)
+
+pub bounds-out-next : goal.bounds-out-next
+bounds-out-next c = search (field_end, rules)
+
 pub returns : goal.returns
-returns c =
-    let text = c.deref.ensures.0 ∙ field_put [] _ _ _ _ _ _ _ (c.push_str.ensures.bytes ∙ ap (λ l. l ++ c.args.name.now) c.new-field.ensures) c.format.ensures.text c.push_str-2.ensures.bytes (c.push.ensures.ascii c.requires.2) c.ranges.x in
-    capped_put (rw text at c.put.ensures) (field_short _ _ _ c.requires.0 c.ranges.x)
+returns c = search (field_put, rules)
