@@ -2,18 +2,20 @@
 -- Assumes nothing.
 use Prim.Native.Nat.{ℕ, zero, suc, ◌+◌, ◌*◌, ◌^◌, ◌/◌, ◌%◌, ◌≤◌, ◌<◌}
 use mathlib.Core.Path.{◌≡◌, sym, ap, ◌∙◌}
-use mathlib.Core.List.{List, [], ◌∷◌, ◌++◌, append_assoc}
+use mathlib.Core.List.{List, [], ◌∷◌, ◌++◌}
 use native.Mathlib.Nat.{pow-suc}
 use native.Mathlib.Omega.{arith}
 use native.Mathlib.Decide.{dec_lt}
 use borrow.Author.Tests.{lt-ltb, le-ltb}
-use lib.ListN.{length, length-append}
+use lib.ListN.{length, set, length-append}
 use mir.Syntax.{w32}
 use mir.Val.{Fits}
 use Rattle.std.specs.Fmt as std
 use Rattle.std.proofs.lemmas.Fmt.{decimal_from_appends, length-decimal-le_succ}
 use Rattle.listing.specs.Decimal.{digits, decimal}
 use Rattle.listing.specs.Listing.{field}
+use Rattle.listing.specs.Steps.{Put, Capped}
+use Rattle.listing.proofs.Writing.{put_here, put_join}
 
 -- any two bounds above a number give the same digits
 digits_bound : (k m x : ℕ) → x < k → x < m → digits k x ≡ digits m x
@@ -77,13 +79,24 @@ decimal_std x h =
     let room = length-decimal-le_succ x h in
     decimal_from_appends digits (record { one = λ k n q. rw (lt-ltb n 10 q); more = λ k n q. rw (le-ltb n 10 q) }) (suc x) x h (omega arith)
 
+pub decimal_text : (text : List ℕ) (x : ℕ) → text ≡ std.decimal x → Fits w32 x → text ≡ decimal x
+decimal_text text x e f = e ∙ sym (decimal_std x (omega (arith, f.fits)))
+
 -- a field, as the code writes it
 pub field_short : (text : List ℕ) (x end : ℕ) → length text ≤ 8 → Fits w32 x → length (field text x end) ≤ 19
 unfolding field
 field_short text x end h f = simp length-append (omega (arith, digits_count 9 x (omega arith)))
 
-pub field_put : (line text digits named numbered new : List ℕ) (x end : ℕ) → named ≡ line ++ text → digits ≡ std.decimal x → numbered ≡ named ++ digits → new ≡ numbered ++ end ∷ [] → Fits w32 x → new ≡ line ++ field text x end
-unfolding field
-field_put line text digits named numbered new x end a b c d f =
-    let same : digits ≡ decimal x = b ∙ sym (decimal_std x (omega (arith, f.fits))) in
-    d ∙ rw (c, a, same) (simp append_assoc)
+module _ (out mid text : List ℕ) (at next x : ℕ) (h : length text ≤ 8) (f : Fits w32 x) (r : at + 19 ≤ length out) (k : length mid ≡ length out) (p : Put out at text mid next) where
+  pub field_number : next + length (decimal x) ≤ length mid
+  field_number = omega (arith, digits_count 9 x (omega arith), p.next)
+
+  module _ (mid₂ : List ℕ) (next₂ : ℕ) (k₂ : length mid₂ ≡ length mid) (q : Put mid next (decimal x) mid₂ next₂) where
+    pub field_end : next₂ < length mid₂
+    field_end = omega (arith, digits_count 9 x (omega arith), p.next, q.next)
+
+    pub field_put : (end : ℕ) → Capped 19 out at (field text x end) (set mid₂ next₂ end) (next₂ + 1)
+    unfolding field
+    field_put end =
+        let w : Put out at (field text x end) (set mid₂ next₂ end) (next₂ + 1) = put_join (put_here mid₂ next₂ end field_end) (put_join q p) in
+        record { put = w; cap = omega (arith, w.next, field_short text x end h f) }

@@ -1,7 +1,7 @@
 -- The text of any bytes, as the code writes it: the parts of an accepted sheet hold its figures, and each way out gives the answer.
 -- Assumes nothing.
 use Prim.Native.Nat.{ℕ, ◌+◌, ◌-◌, ◌*◌, ◌≤◌, ◌<◌, min}
-use mathlib.Core.Path.{◌≡◌, sym, ap, ap₂, subst, ◌∙◌}
+use mathlib.Core.Path.{◌≡◌, refl, sym, ap, ap₂, subst, ◌∙◌}
 use mathlib.Core.Bool.{Bool}
 use mathlib.Core.List.{List, ◌++◌}
 use native.Mathlib.Omega.{arith}
@@ -25,7 +25,7 @@ use Rattle.checker.proofs.Acceptance.{accepted_exactly}
 use Rattle.checker.proofs.Views.{agree_fits, position_in, sheet_renamed, views_fit}
 use Rattle.fit.proofs.Lists.{part}
 use Rattle.listing.specs.Listing.{header_line, task_line, core_line, sheet_text, refused_line, text_of, listing_of}
-use Rattle.listing.specs.Steps.{IsLine, Put, Capped}
+use Rattle.listing.specs.Steps.{Put, Capped}
 use Rattle.listing.specs.Answers.{written, refused, listed, holding}
 use Rattle.listing.proofs.Writing.{put_join}
 use Rattle.listing.proofs.Agree.{cores_renamed, tasks_agree}
@@ -157,9 +157,9 @@ module _ (s out new : List ℕ) (f : Result Counts (Rejection ℕ)) (after : ℕ
       let l : after ≡ length text = p.next ∙ zero-add (length text) in
       (rw (le-ltb (length out) 8192 h, e) (ap written l), rw (le-ltb (length out) 8192 h, e) (rw l at p.bytes))
 
-  pub refused_out : (r : Rejection ℕ) (number most : ℕ) (bytes : List ℕ) → f ≡ Err r → number ≡ number_of r.word → IsLine most (refused_line number r.place) bytes → Put out 0 bytes new after → (written after ≡ listed s out) × (new ≡ holding s out)
+  pub refused_out : (r : Rejection ℕ) (number : ℕ) → f ≡ Err r → number ≡ number_of r.word → Capped 38 out 0 (refused_line number r.place) new after → (written after ≡ listed s out) × (new ≡ holding s out)
   unfolding listing_of text_of
-  refused_out r number most bytes q k l p = written_out bytes (rw (← v, q, ← k) (sym l.same)) p
+  refused_out r number q k p = written_out (refused_line number r.place) (rw (← v, q, ← k) refl) p.put
 
   module _ (counts : Counts) (q : f ≡ Ok counts) where
     pub is_accepted_lem : verdict s ≡ accepted counts.tasks counts.cores

@@ -1,17 +1,21 @@
 -- Texts written one after another into a buffer.
 -- Assumes nothing.
-use Prim.Native.Nat.{ℕ, ◌+◌, ◌-◌, ◌≤◌}
-use mathlib.Core.Path.{◌≡◌, sym, ap, ◌∙◌}
-use mathlib.Core.List.{List, [], ◌++◌, append_assoc}
+use Prim.Native.Nat.{ℕ, ◌+◌, ◌-◌, ◌≤◌, ◌<◌}
+use mathlib.Core.Path.{◌≡◌, refl, sym, ap, ◌∙◌}
+use mathlib.Core.List.{List, [], ◌∷◌, ◌++◌, append_assoc}
 use native.Mathlib.Nat.{add-zero}
+use native.Mathlib.Numerals.{add-one}
 use native.Mathlib.Omega.{arith}
-use lib.ListN.{length, take, drop, length-append, length-take, length-drop, take-append-drop}
-use lib.Seq.{drop-drop, take_at, drop_at}
-use Rattle.listing.specs.Steps.{IsLine, Put, Capped}
+use lib.ListN.{length, take, drop, set, length-append, length-take, length-drop, take-append-drop}
+use lib.Seq.{drop-drop, take_at, drop_at, set_split}
+use Rattle.listing.specs.Steps.{Put, Capped}
 
--- nothing
+-- nothing, and one byte
 pub put_none : (out : List ℕ) (at : ℕ) → at ≤ length out → Put out at [] out at
 put_none out at h = record { bytes = sym (take-append-drop at out); next = sym (add-zero at); room = h }
+
+pub put_here : (out : List ℕ) (at b : ℕ) → at < length out → Put out at (b ∷ []) (set out at b) (at + 1)
+put_here out at b h = record { bytes = rw (add-one at) (set_split out at b h); next = refl; room = omega arith }
 
 -- two texts, the second behind the first
 module _ {out mid new t u : List ℕ} {at next after : ℕ} (q : Put mid next u new after) (p : Put out at t mid next) where
@@ -52,6 +56,3 @@ capped_none out at h = record { put = put_none out at h; cap = omega arith }
 
 pub capped_join : {out mid new t u : List ℕ} {at next after a b : ℕ} → Capped b mid next u new after → Capped a out at t mid next → Capped (a + b) out at (t ++ u) new after
 capped_join q p = record { put = put_join q.put p.put; cap = omega (arith, q.cap, p.cap) }
-
-pub capped_line : {out new line bytes : List ℕ} {at after most : ℕ} → IsLine most line bytes → Put out at bytes new after → Capped most out at line new after
-capped_line l p = record { put = rw l.same at p; cap = omega (arith, p.next, l.short) }

@@ -1,11 +1,6 @@
 -- What the code's own steps write; no public contract speaks of it.
 use Rattle.std.specs.Prelude.{ℕ, ◌+◌, ◌≤◌, ◌≡◌, List, ◌++◌, length, take, drop}
 
--- these bytes are the line, of at most `most` bytes
-pub record IsLine (most : ℕ) (line bytes : List ℕ) : Type 0 where
-  pub same : bytes ≡ line
-  pub short : length bytes ≤ most
-
 -- `out` becomes `new`: the text is written from place `at` on and nothing else, `after` is the place behind it, and there was room
 pub record Put (out : List ℕ) (at : ℕ) (text new : List ℕ) (after : ℕ) : Type 0 where
   pub bytes : new ≡ take at out ++ (text ++ drop after out)

@@ -1,7 +1,7 @@
 // The listing of a sheet: the text of any bytes, written into a lent buffer (docs/SHEET.md, section 8).
 #![tactic(auto)]
 
-ghost use Rattle.std.specs.Prelude.{◌≡◌, ℕ, ◌+◌, ◌*◌, ◌<◌, ◌≤◌, ◌++◌, min, length, IfOk};
+ghost use Rattle.std.specs.Prelude.{◌≡◌, ℕ, ◌+◌, ◌*◌, ◌<◌, ◌≤◌, min, length, IfOk};
 ghost use Rattle.sheet.specs.Numbers.{word};
 ghost use Rattle.sheet.specs.Records.{period_at};
 ghost use Rattle.sheet.specs.Views.{renumbered, figures, figures_by};
@@ -11,54 +11,66 @@ ghost use Rattle.fit.specs.Fits.{within};
 ghost use Rattle.fit.specs.Cores.{order_on};
 ghost use Rattle.checker.specs.Accepted.{Fitting};
 ghost use Rattle.checker.specs.Verdict.{verdict, accepted};
+ghost use Rattle.listing.specs.Decimal.{decimal};
 ghost use Rattle.listing.specs.Listing.{field, header_line, task_line, thousandths, load_of, core_line, sheet_text, refused_line};
-ghost use Rattle.listing.specs.Steps.{IsLine, Put, Capped};
+ghost use Rattle.listing.specs.Steps.{Put, Capped};
 ghost use Rattle.listing.specs.Answers.{listed, holding, answer_of};
 
-use arrayvec::ArrayString;
 use checker::Counts;
 use itoa::Buffer;
 use sheet::{Records, Refusal, Rejection};
 
-// A line with its line feed. The longest is that of a task, which has 6 fields.
-type Line = ArrayString<114>;
-
-// A word with its space, a number, and the byte that ends the field: at most 8 bytes, 10 digits and 1 byte. `write!` promises its bytes only
-// where it does not fail, and does not promise that it does not. The field is made here and then copied: a copy from `name` into `line` itself,
-// both lent, would need C's `memmove`.
-fn push_field(line: &mut Line, name: &str, x: u32, end: char)
-    requires { (length name.now ≤ 8) × (length line.old.bytes + 19 ≤ 114) × (end < 128) }
-    ensures bytes { line.new.bytes ≡ line.old.bytes ++ field name.now x end }
-    ensures short { length line.new.bytes ≤ length line.old.bytes + 19 }
+// Puts a text into the output at a place and returns the place after it.
+fn put(out: &mut [u8], at: usize, text: &[u8]) -> usize
+    requires { at + length text.now ≤ length out.old }
+    ensures { Put out.old at text.now out.new result }
 {
-    let mut field = ArrayString::<19>::new();
-    field.push_str(name);
-    field.push_str(Buffer::new().format(x));
-    field.push(end);
-    line.push_str(field.as_str());
+    let end = at + text.len();
+    out[at..end].copy_from_slice(text);
+    end
+}
+
+// `write!` promises its bytes only where it does not fail, and does not promise that it does not.
+#[inline(never)]
+fn put_number(out: &mut [u8], at: usize, x: u32) -> usize
+    requires { at + length (decimal x) ≤ length out.old }
+    ensures { Put out.old at (decimal x) out.new result }
+{
+    put(out, at, Buffer::new().format(x).as_bytes())
+}
+
+// A word with its space, a number, and the byte that ends the field: at most 8 bytes, 10 digits and 1 byte. Inlined, where the word is known:
+// a copy from `name` into `out`, both lent, would need C's `memmove`.
+#[inline(always)]
+fn put_field(out: &mut [u8], at: usize, name: &[u8], x: u32, end: u8) -> usize
+    requires { (length name.now ≤ 8) × (at + 19 ≤ length out.old) }
+    ensures { Capped 19 out.old at (field name.now x end) out.new result }
+{
+    let next = put(out, at, name);
+    let next = put_number(out, next, x);
+    out[next] = end;
+    next + 1
 }
 
 // The lines: that of a refusal has 2 fields, the first one of a sheet 3, a task's 6 and a core's 4.
 
 #[tactic(auto, unfolding(crate::specs::Listing::refused_line))]
-fn refused_line(number: u8, place: u16) -> Line
-    ensures { IsLine 38 (refused_line number place) result.bytes }
+fn put_refused(out: &mut [u8], number: u8, place: u16) -> usize
+    requires { 38 ≤ length out.old }
+    ensures { Capped 38 out.old 0 (refused_line number place) out.new result }
 {
-    let mut line = Line::new();
-    push_field(&mut line, "refused ", u32::from(number), ' ');
-    push_field(&mut line, "place ", u32::from(place), '\n');
-    line
+    let next = put_field(out, 0, b"refused ", u32::from(number), b' ');
+    put_field(out, next, b"place ", u32::from(place), b'\n')
 }
 
 #[tactic(auto, unfolding(crate::specs::Listing::header_line))]
-fn header_line(version: u16, n: u8, c: u8) -> Line
-    ensures { IsLine 57 (header_line version n c) result.bytes }
+fn put_header(out: &mut [u8], version: u16, n: u8, c: u8) -> usize
+    requires { 57 ≤ length out.old }
+    ensures { Capped 57 out.old 0 (header_line version n c) out.new result }
 {
-    let mut line = Line::new();
-    push_field(&mut line, "TSH ", u32::from(version), ' ');
-    push_field(&mut line, "tasks ", u32::from(n), ' ');
-    push_field(&mut line, "cores ", u32::from(c), '\n');
-    line
+    let next = put_field(out, 0, b"TSH ", u32::from(version), b' ');
+    let next = put_field(out, next, b"tasks ", u32::from(n), b' ');
+    put_field(out, next, b"cores ", u32::from(c), b'\n')
 }
 
 // The whole part of q * m / d.
@@ -71,24 +83,21 @@ fn within_of(q: u16, m: u32, d: u32) -> u32
 }
 
 // The line of task i, whose record stands at position j.
-#[tactic(auto, unfolding(crate::specs::Listing::task_line, fit::specs::Cores::within_on))]
-fn task_line(r: &Records, i: u8, j: u8) -> Line
-    requires { Fitting (figures_by r.now) × (j < r.now.n) }
-    ensures { IsLine 114 (task_line (renumbered (λ x. j) (figures_by r.now)) i) result.bytes }
+fn put_task(out: &mut [u8], at: usize, r: &Records, i: u8, j: u8) -> usize
+    requires { Fitting (figures_by r.now) × (j < r.now.n) × (at + 114 ≤ length out.old) }
+    ensures { Capped 114 out.old at (task_line (renumbered (λ x. j) (figures_by r.now)) i) out.new result }
 {
     let k = sheet::byte(r.on, usize::from(j));
     let period = sheet::period(r.tasks, j);
     let budget = sheet::budget(r.tasks, j);
     let factor = sheet::factor(r.tasks, j);
     let within = within_of(sheet::pivot(r.cores, k), factor, sheet::divisor(r.cores, k));
-    let mut line = Line::new();
-    push_field(&mut line, "task ", u32::from(i), ' ');
-    push_field(&mut line, "core ", u32::from(k), ' ');
-    push_field(&mut line, "period ", u32::from(period), ' ');
-    push_field(&mut line, "budget ", u32::from(budget), ' ');
-    push_field(&mut line, "factor ", factor, ' ');
-    push_field(&mut line, "within ", within, '\n');
-    line
+    let next = put_field(out, at, b"task ", u32::from(i), b' ');
+    let next = put_field(out, next, b"core ", u32::from(k), b' ');
+    let next = put_field(out, next, b"period ", u32::from(period), b' ');
+    let next = put_field(out, next, b"budget ", u32::from(budget), b' ');
+    let next = put_field(out, next, b"factor ", factor, b' ');
+    put_field(out, next, b"within ", within, b'\n')
 }
 
 // A load in thousandths of a full one, rounded up.
@@ -112,33 +121,21 @@ fn load_of(r: &Records, list: &[u8], k: u8) -> u32
     in_thousandths(load, fit::product(sheet::pivot(r.cores, k), last))
 }
 
-#[tactic(auto, unfolding(crate::specs::Listing::core_line))]
-fn core_line(r: &Records, list: &[u8], k: u8) -> Line
-    requires { Fitting (figures_by r.now) × (list.now ≡ order_on (figures_by r.now) k) × (r.now.n ≤ 64) × (k < r.now.c) }
-    ensures { IsLine 76 (core_line (figures_by r.now) k) result.bytes }
+fn put_core(out: &mut [u8], at: usize, r: &Records, list: &[u8], k: u8) -> usize
+    requires { Fitting (figures_by r.now) × (list.now ≡ order_on (figures_by r.now) k) × (r.now.n ≤ 64) × (k < r.now.c) × (at + 76 ≤ length out.old) }
+    ensures { Capped 76 out.old at (core_line (figures_by r.now) k) out.new result }
 {
     let load = load_of(r, list, k);
-    let mut line = Line::new();
-    push_field(&mut line, "core ", u32::from(k), ' ');
-    push_field(
-        &mut line,
-        "pivot ",
+    let next = put_field(out, at, b"core ", u32::from(k), b' ');
+    let next = put_field(
+        out,
+        next,
+        b"pivot ",
         u32::from(sheet::pivot(r.cores, k)),
-        ' ',
+        b' ',
     );
-    push_field(&mut line, "divisor ", sheet::divisor(r.cores, k), ' ');
-    push_field(&mut line, "load ", load, '\n');
-    line
-}
-
-// Puts a line into the output at a place and returns the place after it.
-fn put(out: &mut [u8], at: usize, line: &str) -> usize
-    requires { at + length line.now ≤ length out.old }
-    ensures { Put out.old at line.now out.new result }
-{
-    let end = at + line.len();
-    out[at..end].copy_from_slice(line.as_bytes());
-    end
+    let next = put_field(out, next, b"divisor ", sheet::divisor(r.cores, k), b' ');
+    put_field(out, next, b"load ", load, b'\n')
 }
 
 // The lines of the tasks by number; `positions` says where their records stand.
@@ -149,7 +146,7 @@ fn put_tasks(out: &mut [u8], from: usize, r: &Records, positions: &[u8]) -> usiz
     let mut at = from;
     for i in 0..r.n {
         let j = sheet::byte(positions, usize::from(i));
-        at = put(out, at, &task_line(r, i, j));
+        at = put_task(out, at, r, i, j);
     }
     at
 }
@@ -163,7 +160,7 @@ fn put_cores(out: &mut [u8], from: usize, r: &Records, periods: &[u16]) -> usize
     let mut start = 0;
     for k in 0..r.c {
         let end = order::end_on(&list, r.on, r.n, start, k);
-        at = put(out, at, &core_line(r, &list[start..end], k));
+        at = put_core(out, at, r, &list[start..end], k);
         start = end;
     }
     at
@@ -189,7 +186,7 @@ fn put_sheet(out: &mut [u8], sheet: &[u8], n: u8, c: u8) -> usize
     };
     let positions = views::positions_of(grouped, tasks, n);
     let periods = fit::periods_of(tasks, 10, n);
-    let at = put(out, 0, &header_line(sheet::read_word(sheet, 3), n, c));
+    let at = put_header(out, sheet::read_word(sheet, 3), n, c);
     let at = put_tasks(out, at, &r, &positions);
     put_cores(out, at, &r, &periods)
 }
@@ -204,7 +201,7 @@ pub fn list_sheet(sheet: &[u8], out: &mut [u8]) -> Result<u16, Rejection>
         return Err(Refusal::Tight.at(0));
     }
     let length = match checker::check(sheet) {
-        Err(r) => put(out, 0, &refused_line(u8::from(r.word), r.place)),
+        Err(r) => put_refused(out, u8::from(r.word), r.place),
         Ok(Counts { tasks, cores }) => put_sheet(out, sheet, tasks, cores),
     };
     Ok(length as u16)

@@ -8,6 +8,6 @@ returns-then-out-lt8192-clause-listed c = rw c.at.ensures (tight_out _ _ c.if-ou
 pub returns-clause-listed : goal.returns-clause-listed
 returns-clause-listed c =
     elim c.match-check.branch [
-      | in-Err w ↦ rw (w.out-is, w.length-is) (refused_out _ _ _ _ _ c.if-out-lt8192.false c.check.ensures _ _ _ _ w.in-Err.is w.from.ensures w.refused_line.ensures (rw w.deref.ensures.0 at w.put-length.ensures))
+      | in-Err w ↦ rw (w.out-is, w.length-is) (refused_out _ _ _ _ _ c.if-out-lt8192.false c.check.ensures _ _ w.in-Err.is w.from.ensures w.put_refused-length.ensures)
       | in-Ok w ↦ rw (w.out-is, w.length-is) (accepted_out _ _ _ _ _ c.if-out-lt8192.false c.check.ensures _ w.in-Ok.is w.put_sheet-length.ensures)
     ]

@@ -10,5 +10,4 @@ loop-i-init c = search (lines_start, rules)
 pub loop-i-preserved : goal.loop-i-preserved
 loop-i-preserved c =
     let position = rw c.from.ensures at c.byte-j.ensures in
-    let written = rw c.deref.ensures.0 at c.put-at.ensures in
-    tasks_turn (figures_by c.args.r.now) (at c.args.positions.now) _ _ _ _ _ _ _ _ _ _ position c.task_line.ensures written c.loop-i.invariant
+    tasks_turn (figures_by c.args.r.now) (at c.args.positions.now) _ _ _ _ _ _ _ _ _ position c.put_task-at.ensures c.loop-i.invariant
