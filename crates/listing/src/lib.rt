@@ -17,7 +17,6 @@ ghost use Rattle.listing.specs.Steps.{Put, Capped};
 ghost use Rattle.listing.specs.Answers.{listed, holding, answer_of};
 
 use checker::Counts;
-use itoa::Buffer;
 use sheet::{Records, Refusal, Rejection};
 
 // Puts a text into the output at a place and returns the place after it.
@@ -30,13 +29,19 @@ fn put(out: &mut [u8], at: usize, text: &[u8]) -> usize
     end
 }
 
-// `write!` promises its bytes only where it does not fail, and does not promise that it does not.
+// `write!` promises its bytes only where it does not fail, and does not promise that it does not. Most numbers have one digit.
 #[inline(never)]
 fn put_number(out: &mut [u8], at: usize, x: u32) -> usize
     requires { at + length (decimal x) ≤ length out.old }
     ensures { Put out.old at (decimal x) out.new result }
 {
-    put(out, at, Buffer::new().format(x).as_bytes())
+    if x < 10 {
+        out[at] = b'0' + x as u8;
+        return at + 1;
+    }
+    let end = at + x.ilog10() as usize + 1;
+    itoa::write_digits(u64::from(x), out, end);
+    end
 }
 
 // A word with its space, a number, and the byte that ends the field: at most 8 bytes, 10 digits and 1 byte. Inlined, where the word is known:
