@@ -4,8 +4,9 @@ set -euo pipefail
 lib=${1:-${HOMVAITS_LIB:-$(dirname "$0")/../target/staticlib/libcapi.a}}
 bound=8192      # bytes of stack for any call
 by_value=656    # bytes of a state that a caller hands in by value; tick_row is lent its states
-# functions that call themselves, and how often one call is there at most: put_number once for each digit of a u32
-declare -A times=([listing::put_number]=10)
+# functions that call themselves, and how often one call is there at most
+declare -A times=()
+readme=$(dirname "$0")/../README.md
 
 fail() {
     echo "needs: $*" >&2
@@ -65,9 +66,21 @@ depth() { # sets `deep` to the stack that a function uses
     done
     deep=$((frame[$f] * here + most))
 }
+# what README says of each call, and of the size of all
+declare -A said=()
+while read -r call bytes; do said[$call]=${bytes//,/}; done < <(awk -F' *[|] *' '
+    /^[|] check [|] plan [|]/ { for (i = 2; i < NF; i++) name[i] = $i; getline; getline; for (i = 2; i < NF; i++) print name[i], $i; exit }' "$readme")
+said[layout_1]=${said[layout]:-}
 for call in $calls; do
     depth "homvaits_$call"
     case $call in release | finish | tick) deep=$((deep + by_value)) ;; esac
     printf 'needs: homvaits_%-10s %5d bytes of stack at most\n' "$call" "$deep"
     [ "$deep" -le "$bound" ] || fail "homvaits_$call uses more than $bound bytes of stack"
+    [ -n "${said[$call]:-}" ] || fail "README says nothing of the stack of $call"
+    [ "$deep" -le "${said[$call]}" ] || fail "homvaits_$call uses $deep bytes of stack, and README says ${said[$call]}"
 done
+code=$(size -t "$lib" | awk 'END { print $1 }')
+kib=$(sed -nE 's/.* It has ([0-9]+) KiB of code and constants.*/\1/p' "$readme")
+[ -n "$kib" ] || fail "README says nothing of the size of code and constants"
+[ "$code" -lt $(((kib + 1) * 1024)) ] || fail "code and constants have $code bytes, and README says $kib KiB"
+echo "needs: $code bytes of code and constants"
