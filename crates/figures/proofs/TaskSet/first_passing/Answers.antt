@@ -1,4 +1,4 @@
-use Rattle.std.proofs.Common.{Some, refl}
+use Rattle.std.proofs.Common.{Some, refl, rules}
 use Rattle.figures.proofs.Rounds.{rounds}
 use Rattle.figures.proofs.TaskSet.first_passing.Goals as goal
 
@@ -13,4 +13,4 @@ returns-in-Some-first_sr c =
     rounds _ _ c.args.self.now.few c.args.self.now.sorted _ f f c.in_default.ensures c.in-Some-first_sr.ensures refl
 
 pub returns : goal.returns
-returns c = rounds _ _ c.args.self.now.few c.args.self.now.sorted _ _ _ c.in_default.ensures c.in_default-first_sr.ensures c.first_dct.ensures
+returns c = search (rounds c.args.self.now.periods.now c.args.self.now.budgets.now c.args.self.now.few c.args.self.now.sorted, c.in_default.ensures, c.in_default-first_sr.ensures, rules)
