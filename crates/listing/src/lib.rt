@@ -106,7 +106,7 @@ fn put_task(out: &mut [u8], at: usize, r: &Records, i: u8, j: u8) -> usize
 }
 
 // A load in thousandths of a full one, rounded up.
-#[tactic(auto, using(fit::proofs::Ceiling::div_ceil_is), unfolding(crate::specs::Listing::thousandths))]
+#[tactic(auto, using(fit::proofs::Ceiling::div_ceil_is), unfolding(crate::specs::Listing::thousandths, fit::specs::Rounding::ceiling))]
 fn in_thousandths(load: u64, full: u64) -> u32
     requires { (0 < full) × (load ≤ full) × (full ≤ 7_200_000_000) }
     ensures { result ≡ thousandths load full }
