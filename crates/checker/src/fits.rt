@@ -43,7 +43,7 @@ fn judge_over(tasks: &[u8], list: &[u8]) -> Result<bool, Rejection>
     }
 }
 
-// The task records. (As what a call answers a proof knows that they are bytes.)
+// The task records. Of what a call answers a proof knows that it is bytes, of a field of `r` it does not.
 fn task_records<'a>(r: &Records<'a>) -> &'a [u8]
     ensures { result.now ≡ r.now.tasks.now }
 {

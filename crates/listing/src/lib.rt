@@ -171,7 +171,7 @@ fn put_cores(out: &mut [u8], from: usize, r: &Records, periods: &[u16]) -> usize
     at
 }
 
-// The text of an accepted sheet. Not inlined: its lines and columns would stand on the stack below the checker.
+// The text of an accepted sheet. Not inlined: its columns would stand on the stack below the checker.
 #[inline(never)]
 fn put_sheet(out: &mut [u8], sheet: &[u8], n: u8, c: u8) -> usize
     requires { (verdict sheet.now ≡ accepted n c) × (8192 ≤ length out.old) }

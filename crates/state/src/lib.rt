@@ -126,7 +126,8 @@ impl Core {
         next
     }
 
-    // The state without its stroke, if that is of the task with this number. The copy keeps the bytes that no field has.
+    // The state without its stroke, if that is of the task with this number. Two fields of a copy change: a state made anew would come without
+    // the bytes that C leaves behind the fields.
     fn without_stroke(self, number: u8) -> Core
         ensures { result ≡ with_stroke self (cond (eqb self.stroke_task number) no_stroke (stroke_in self)) }
     {
